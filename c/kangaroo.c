@@ -96,7 +96,7 @@ static void take_buffer(get_call *call, void *buffer, size_t size) {
 
 static void write_hit(kangaroo_hit *to, const kl_hit *from) {
     if (to == NULL) return;
-    *to = (kangaroo_hit){.length = (size_t)from->length, .tier = from->tier};
+    *to = (kangaroo_hit){.length = (size_t)from->length, .expires = from->expires, .tier = from->tier};
 }
 
 static kangaroo_status get_held(kangaroo_cache *cache, const key_copy *key, const get_call *call, kl_hit *hit) {
@@ -153,6 +153,10 @@ static bool is_miss(kangaroo_status status) {
            status == KANGAROO_DAMAGED;
 }
 
+/* Looks a key up in a hold of its lane, and leases it in the same hold: at a miss, or at a hit too. */
+typedef kangaroo_status leasing(kangaroo_cache *cache, const key_copy *key, const get_call *call, kl_hit *hit,
+                                kangaroo_lease *lease);
+
 static kangaroo_status get_or_lease_held(kangaroo_cache *cache, const key_copy *key, const get_call *call, kl_hit *hit,
                                          kangaroo_lease *lease) {
     uint64_t writes = 0;
@@ -164,6 +168,18 @@ static kangaroo_status get_or_lease_held(kangaroo_cache *cache, const key_copy *
     return status;
 }
 
+static kangaroo_status get_and_lease_held(kangaroo_cache *cache, const key_copy *key, const get_call *call, kl_hit *hit,
+                                          kangaroo_lease *lease) {
+    uint64_t writes = 0;
+    hold held = hold_lane(cache, key->place.lane);
+    int32_t answer =
+        kl_get(&held.lane->lane, key->bytes, key->length, call->moment, call->into, call->into_length, hit);
+    int32_t leased = kl_lease(&held.lane->lane, key->bytes, key->length, &writes);
+    kangaroo_status status = release(&held, answer);
+    if (leased == KANGAROO_OK) *lease = lease_of(cache, key, writes);
+    return status;
+}
+
 /* Whether what a get is to write lies apart. */
 static bool lie_apart(const void *buffer, size_t buffer_size, const kangaroo_hit *hit, const kangaroo_lease *lease) {
     if (overlap(lease, sizeof *lease, buffer, buffer_size)) return false;
@@ -171,8 +187,9 @@ static bool lie_apart(const void *buffer, size_t buffer_size, const kangaroo_hit
     return !overlap(hit, sizeof *hit, buffer, buffer_size) && !overlap(hit, sizeof *hit, lease, sizeof *lease);
 }
 
-kangaroo_status kangaroo_get_or_lease(kangaroo_cache *cache, const void *key, size_t key_length, uint64_t moment,
-                                      void *buffer, size_t buffer_size, kangaroo_hit *hit, kangaroo_lease *lease) {
+static kangaroo_status get_leasing(leasing *of, kangaroo_cache *cache, const void *key, size_t key_length,
+                                   uint64_t moment, void *buffer, size_t buffer_size, kangaroo_hit *hit,
+                                   kangaroo_lease *lease) {
     key_copy copy;
     get_call call = {.moment = moment};
     kl_hit found = {0};
@@ -182,11 +199,21 @@ kangaroo_status kangaroo_get_or_lease(kangaroo_cache *cache, const void *key, si
     if (status == KANGAROO_OK && !are_bytes(buffer, buffer_size)) status = KANGAROO_WRONG_ARGUMENT;
     if (status == KANGAROO_OK) {
         take_buffer(&call, buffer, buffer_size);
-        status = get_or_lease_held(cache, &copy, &call, &found, &given);
+        status = of(cache, &copy, &call, &found, &given);
     }
     write_hit(hit, &found);
     *lease = given;
     return status;
+}
+
+kangaroo_status kangaroo_get_or_lease(kangaroo_cache *cache, const void *key, size_t key_length, uint64_t moment,
+                                      void *buffer, size_t buffer_size, kangaroo_hit *hit, kangaroo_lease *lease) {
+    return get_leasing(get_or_lease_held, cache, key, key_length, moment, buffer, buffer_size, hit, lease);
+}
+
+kangaroo_status kangaroo_get_and_lease(kangaroo_cache *cache, const void *key, size_t key_length, uint64_t moment,
+                                       void *buffer, size_t buffer_size, kangaroo_hit *hit, kangaroo_lease *lease) {
+    return get_leasing(get_and_lease_held, cache, key, key_length, moment, buffer, buffer_size, hit, lease);
 }
 
 kangaroo_status kangaroo_lease_drop(kangaroo_cache *cache, kangaroo_lease *lease) {

@@ -15,6 +15,7 @@
  *   kangaroo_put_or_remove    puts a value; if that is refused, removes the key
  *   kangaroo_remove           removes a key
  *   kangaroo_get_or_lease     gets a value, or gives a lease after a miss
+ *   kangaroo_get_and_lease    gets a value, and gives a lease at a hit too
  *   kangaroo_fill             puts what was read after a miss, if its lease still holds
  *   kangaroo_lease_drop       gives a lease up
  *   kangaroo_upkeep           does steps of upkeep that are due
@@ -264,8 +265,9 @@ KANGAROO_API kangaroo_status kangaroo_close(kangaroo_cache *cache);
 /* What a get found. The struct does not grow. */
 typedef struct kangaroo_hit {
     size_t length;        /* the value's length in bytes */
+    uint64_t expires;     /* as its put gave it: the first moment at which it is not live, or KANGAROO_NEVER */
     uint32_t tier;        /* one of KANGAROO_TIER_.. */
-    uint32_t reserved[5]; /* 0 */
+    uint32_t reserved[3]; /* 0 */
 } kangaroo_hit;
 
 /* Gets the value of a key, if it is live at a moment: moment < expires, or expires is KANGAROO_NEVER.
@@ -353,6 +355,14 @@ typedef struct kangaroo_lease {
 KANGAROO_API kangaroo_status kangaroo_get_or_lease(kangaroo_cache *cache, const void *key, size_t key_length,
                                                    uint64_t moment, void *buffer, size_t buffer_size,
                                                    kangaroo_hit *hit, kangaroo_lease *lease);
+
+/* Gets a value as kangaroo_get does, and gives a lease of the key at a hit too. With kangaroo_fill it is a compare and
+ * swap without a lock: the fill replaces what was hit, if no put, fill or removal of the key came between. It may be
+ * stale without cause, since another key of its slot was written: then get and try again. *lease is all zeros at
+ * KANGAROO_WRONG_KEY and KANGAROO_FORKED. Statuses and the rest as kangaroo_get_or_lease. */
+KANGAROO_API kangaroo_status kangaroo_get_and_lease(kangaroo_cache *cache, const void *key, size_t key_length,
+                                                    uint64_t moment, void *buffer, size_t buffer_size,
+                                                    kangaroo_hit *hit, kangaroo_lease *lease);
 
 /* Puts a value if its lease still holds. *lease becomes all zeros at KANGAROO_OK and KANGAROO_STALE, and stays at a
  * refusal, so that the fill may be tried again. Blocking, memory and `expires` are as for kangaroo_put.

@@ -71,9 +71,9 @@ typedef struct kl_sizes {
     uint64_t file_bytes, lane_pages, memory_fixed, memory_full, memory_objects, log_objects, set_objects;
 } kl_sizes;
 
-/* Where a value was found: `tier` is one of KANGAROO_TIER_.., `reserved` is 0. */
+/* Where a value was found, and when it expires: `tier` is one of KANGAROO_TIER_.., `reserved` is 0. */
 typedef struct kl_hit {
-    uint64_t length;
+    uint64_t length, expires;
     uint32_t tier, reserved;
 } kl_hit;
 
@@ -131,6 +131,10 @@ int32_t kl_get(kl_lane *lane, const uint8_t *key, size_t key_length, uint64_t mo
 /* The same; at a miss *writes becomes the number of the lease. */
 int32_t kl_get_or_lease(kl_lane *lane, const uint8_t *key, size_t key_length, uint64_t moment, uint8_t *into,
                         size_t into_length, kl_hit *hit, uint64_t *writes);
+
+/* KANGAROO_OK: *writes is the number of a lease of the key, whether it is there or not. KANGAROO_WRONG_KEY: *writes is as
+ * it was. */
+int32_t kl_lease(kl_lane *lane, const uint8_t *key, size_t key_length, uint64_t *writes);
 
 /* KANGAROO_OK: stored. KANGAROO_WRONG_KEY, KANGAROO_TOO_LARGE or KANGAROO_NO_MEMORY: only counters have changed. It does
  * upkeep itself if the log is nearly full. *is_due becomes 1 if upkeep is due after it, else 0, whatever it answers. */

@@ -56,9 +56,10 @@ WHOLE(kl_sizes, 56, 8);
 
 /* Hit, c_lane/src/hit.rt */
 FIELD(kl_hit, length, 0, 8);
-FIELD(kl_hit, tier, 8, 4);
-FIELD(kl_hit, reserved, 12, 4);
-WHOLE(kl_hit, 16, 8);
+FIELD(kl_hit, expires, 8, 8);
+FIELD(kl_hit, tier, 16, 4);
+FIELD(kl_hit, reserved, 20, 4);
+WHOLE(kl_hit, 24, 8);
 
 /* Step, c_lane/src/step.rt */
 FIELD(kl_step, did, 0, 4);

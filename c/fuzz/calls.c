@@ -102,6 +102,7 @@ static void expect_get(const known *of, uint64_t moment, kangaroo_status status,
     if (status == KANGAROO_OK || status == KANGAROO_SHORT_BUFFER) {
         expect(of->is_put && is_live(of, moment), "a hit only of a live value");
         expect(hit->length == of->length && hit->tier >= 1 && hit->tier <= 3, "its length and tier");
+        expect(hit->expires == of->expires, "when it expires");
         expect((status == KANGAROO_OK) == (room >= of->length), "short only if it is");
         if (status == KANGAROO_OK) expect_value(of, got, hit);
         if (status == KANGAROO_OK) written = of->length;

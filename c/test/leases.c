@@ -36,6 +36,38 @@ static void shows_a_fill(kangaroo_cache *cache) {
     show("of several leases of a key the first fill is stored, the others are stale");
 }
 
+/* Swaps the value of a key for another, by the lease of a get that hits the one that is expected. */
+static kangaroo_status swap(kangaroo_cache *cache, const char *key, const char *from, const char *to, bool is_written) {
+    kangaroo_lease lease;
+    kangaroo_hit hit;
+    char value[8];
+    kangaroo_status status =
+        kangaroo_get_and_lease(cache, key, strlen(key), 0, value, sizeof value, &hit, &lease);
+    expect(status == KANGAROO_OK && hit.length == strlen(from) && memcmp(value, from, hit.length) == 0, "what it has");
+    expect(!is_none(&lease), "a lease at a hit");
+    if (is_written) put_text(cache, key, "newer");
+    return fill(cache, &lease, key, to);
+}
+
+static void shows_swaps(kangaroo_cache *cache) {
+    kangaroo_lease lease, none = {{0}};
+    char value[8];
+    put_text(cache, "swapped", "one");
+    expect_status(swap(cache, "swapped", "one", "two", false), KANGAROO_OK, "a swap");
+    expect(hits_text(cache, "swapped", "two"), "its value");
+    expect_status(swap(cache, "swapped", "two", "three", true), KANGAROO_STALE, "a swap behind a put");
+    expect(hits_text(cache, "swapped", "newer"), "the put's value");
+    expect_status(kangaroo_get_and_lease(cache, "free", 4, 0, NULL, 0, NULL, &lease), KANGAROO_ABSENT, "a miss");
+    expect_status(fill(cache, &lease, "free", "one"), KANGAROO_OK, "a fill after a miss");
+    expect_status(kangaroo_get_and_lease(cache, "free", 4, 0, value, 1, NULL, &lease), KANGAROO_SHORT_BUFFER, "short");
+    expect_status(fill(cache, &lease, "free", "two"), KANGAROO_OK, "a fill after a hit that was not copied");
+    memset(&lease, 7, sizeof lease);
+    expect_status(kangaroo_get_and_lease(cache, "", 0, 0, NULL, 0, NULL, &lease), KANGAROO_WRONG_KEY, "no key");
+    expect(memcmp(&lease, &none, sizeof none) == 0, "no lease of no key");
+    expect_status(kangaroo_get_and_lease(cache, "a", 1, 0, NULL, 0, NULL, NULL), KANGAROO_WRONG_ARGUMENT, "no room");
+    show("a get with a lease and a fill swap a value, unless the key was written between");
+}
+
 static void shows_what_ends_one(kangaroo_cache *cache) {
     kangaroo_lease lease = lease_of(cache, "put");
     put_text(cache, "put", "newer");
@@ -142,6 +174,7 @@ int main(void) {
     shows_a_fill(first);
     shows_what_ends_one(first);
     shows_whose_it_is(first, second);
+    shows_swaps(first);
     shows_drops(first);
     shows_a_database(first);
     close_cache(first);

@@ -1,5 +1,5 @@
 /* Objects go from memory to the log and to the sets, by upkeep that the caller does, or by threads: each hit in each
- * tier is the value that was put. */
+ * tier is the value that was put, with its expiry. */
 #include "test.h"
 
 enum { KEYS = 8000, SIZE = 150 };
@@ -8,10 +8,15 @@ static void value_of(uint32_t key, uint32_t version, unsigned char to[SIZE]) {
     for (uint32_t i = 0; i < SIZE; i++) to[i] = (unsigned char)(key * 31 + version * 17 + i);
 }
 
+/* Every second key expires, each at a moment of its own. */
+static uint64_t expiry_of(uint32_t key) {
+    return key % 2 == 0 ? KANGAROO_NEVER : 1000 + key;
+}
+
 static void put(kangaroo_cache *cache, uint32_t key, uint32_t version) {
     unsigned char value[SIZE];
     value_of(key, version, value);
-    expect_status(kangaroo_put(cache, &key, sizeof key, value, SIZE, KANGAROO_NEVER), KANGAROO_OK, "a put");
+    expect_status(kangaroo_put(cache, &key, sizeof key, value, SIZE, expiry_of(key)), KANGAROO_OK, "a put");
 }
 
 /* Gets all keys; returns how many were hit in each tier. */
@@ -24,6 +29,7 @@ static void get_all(kangaroo_cache *cache, uint32_t version, long hits[4]) {
         value_of(key, version, wanted);
         expect(status == KANGAROO_ABSENT || status == KANGAROO_OK, "a hit or absent");
         if (status == KANGAROO_OK) expect(hit.length == SIZE && memcmp(value, wanted, SIZE) == 0, "the value");
+        expect(hit.expires == (status == KANGAROO_OK ? expiry_of(key) : 0), "when it expires");
         hits[status == KANGAROO_OK ? hit.tier : 0]++;
     }
 }

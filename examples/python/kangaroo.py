@@ -22,7 +22,7 @@ class Options(ctypes.Structure):
 class Hit(ctypes.Structure):
     """kangaroo_hit."""
 
-    _fields_ = [("length", Size), ("tier", Word), ("reserved", Word * 5)]
+    _fields_ = [("length", Size), ("expires", Number), ("tier", Word), ("reserved", Word * 3)]
 
 
 class Lease(ctypes.Structure):

@@ -10,6 +10,8 @@ use record_pages::Tier;
 pub struct Hit {
     /// Bytes of the value.
     pub length: u64,
+    /// When it expires, 2^64 - 1 if it does not; 0 if there is no hit.
+    pub expires: u64,
     /// Where it was found: 1 in memory, 2 in the log, 3 in a set; 0 if there is no hit.
     pub tier: u32,
     /// Always 0.
@@ -23,17 +25,19 @@ impl Hit {
     {
         Hit {
             length: 0,
+            expires: 0,
             tier: 0,
             reserved: 0,
         }
     }
 
-    // A hit of these bytes in a tier.
-    pub(crate) fn of(value: &[u8], tier: Tier) -> Hit
-        ensures { result ≡ hit_with value.now tier }
+    // A hit of these bytes in a tier, which expire then.
+    pub(crate) fn of(value: &[u8], tier: Tier, expires: u64) -> Hit
+        ensures { result ≡ hit_with value.now tier expires }
     {
         Hit {
             length: value.len() as u64,
+            expires,
             tier: match tier {
                 Tier::Memory => 1,
                 Tier::Log => 2,

@@ -20,7 +20,11 @@ use Rattle.mover.specs.Laws.{IsInOrder, StepsInOrder, OpeningShowsNothing, GetSh
 use Rattle.mover.specs.Visible.{IsShown, TellsVisible}
 use Rattle.deeds.specs.Sound.{act_of}
 use Rattle.deeds.proofs.public_laws.Sounding.{no_deed, reads, put_gives, sound_by, sound_put, sound_remove, none_some, hit_is, still_in_order}
-use Rattle.deeds.specs.Asked.{Asked, IsServed, IsLiveHit}
+use Rattle.deeds.specs.Asked.{Asked, IsServed, IsLiveHit, TellsExpiry}
+use Rattle.mover.specs.declared.answer_kind.AnswerKind.{AnswerKind}
+use Rattle.mover.specs.declared.answer_kind.AnswerKind.TheVariants as kinds
+use Rattle.mover.specs.Timed.{TellsExpiry as StoreTells, expiry_in_memory, expiry_of, first_timed}
+use Rattle.mover.proofs.public_laws.Showing.{timed_visible}
 use Rattle.certificate_checker.proofs.public_laws.LatestLemmas.{current-push, deed_kept, live_is, live_found}
 use Rattle.certificate_checker.specs.Current.{given_at}
 use Rattle.record_pages.specs.Expiry.{value_at}
@@ -169,3 +173,20 @@ module _ {D : Type 0} (size : ℕ) (honest : D → Bool) (failures : D → ℕ) 
   pub live_then : FoundIsHeld → (result : Result Answer AllocError) → StoreGets size honest failures held key moment old.store result new → IfOk result (λ answer. IsLiveHit (IsTrue (honest new.device)) old.deeds key moment answer)
   live_then found (Ok answer) gets = subst (λ (b : Bool). IsLiveHit (IsTrue b) old.deeds key moment answer) (sym gets.reads.honesty) (live_asked found answer gets)
   live_then found (Err e) gets = tt
+
+-- ---- expiries
+
+module _ {D : Type 0} (honest : D → Bool) (held : D → ℕ → Option (List ℕ)) (found : FoundIsHeld) (old : Asked D) (served : IsServed honest held old) (key buffer : List ℕ) where
+  shown : (expires : ℕ) (is : IsTrue (honest old.store.device)) → first_timed key (lane_of held old.store) ≡ Some (timed buffer expires) → current old.deeds key ≡ Some (timed buffer expires)
+  shown expires is first =
+      let v : TimedValue = timed buffer expires in
+      served.sound is (record { key = key; value = v }) (inl (timed_visible key (lane_of held old.store) v first))
+
+  -- what is told of a hit is what its key has
+  pub expiry_told : (seen : AnswerKind) → StoreTells honest held key old.store (expiry_in_memory seen) (expiry_of seen) buffer → TellsExpiry (IsTrue (honest old.store.device)) old.deeds key buffer seen
+  expiry_told (kinds.Hit Memory expires) tells =
+      let v : TimedValue = timed buffer expires in
+      served.memory (record { key = key; value = v }) (found key v old.store.memory tells.memory)
+  expiry_told (kinds.Hit Log expires) tells = λ is. shown expires is (tells.lane is)
+  expiry_told (kinds.Hit Set expires) tells = λ is. shown expires is (tells.lane is)
+  expiry_told (kinds.Miss cause) tells = tt

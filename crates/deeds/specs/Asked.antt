@@ -1,5 +1,6 @@
 -- A store with what was asked of it and answered, and what is true of every such store.
 use Rattle.std.specs.Prelude.{◌≡◌, ℕ, List, Option, Some, Bool, IsTrue, Contains}
+use Rattle.record_pages.specs.Expiry.{timed}
 use Rattle.record_pages.specs.declared.answer.Answer.{Answer}
 use Rattle.record_pages.specs.declared.answer.Answer.TheVariants.{Hit, Miss}
 use Rattle.record_pages.specs.declared.tier.Tier.TheVariants.{Memory, Log, Set}
@@ -33,7 +34,7 @@ pub record IsServed {D : Type 0} (honest : D → Bool) (held : D → ℕ → Opt
 
 -- a get that found no value
 abbrev pub IsMiss : AnswerKind → Type 0
-IsMiss (seen.Hit tier) = ⊥
+IsMiss (seen.Hit tier expires) = ⊥
 IsMiss (seen.Miss cause) = Unit {0}
 
 -- A hit is its key's latest value not since removed, live at the moment: in memory whatever the device, on flash if it is honest.
@@ -42,3 +43,10 @@ IsLiveHit honest deeds key moment (Hit value Memory) = IsLive deeds key value mo
 IsLiveHit honest deeds key moment (Hit value Log) = honest → IsLive deeds key value moment
 IsLiveHit honest deeds key moment (Hit value Set) = honest → IsLive deeds key value moment
 IsLiveHit honest deeds key moment (Miss cause) = Unit {0}
+
+-- The expiry that is told with a hit is that of the key's latest put: in memory whatever the device, on flash if it is honest.
+abbrev pub TellsExpiry : Type 0 → List Deed → List ℕ → List ℕ → AnswerKind → Type 0
+TellsExpiry honest deeds key value (seen.Hit Memory expires) = current deeds key ≡ Some (timed value expires)
+TellsExpiry honest deeds key value (seen.Hit Log expires) = honest → current deeds key ≡ Some (timed value expires)
+TellsExpiry honest deeds key value (seen.Hit Set expires) = honest → current deeds key ≡ Some (timed value expires)
+TellsExpiry honest deeds key value (seen.Miss cause) = Unit {0}

@@ -26,7 +26,7 @@ pub(crate) fn act_seen(seen: AnswerKind, found: &ValueBuffer, moment: u64) -> Ac
     ensures { act_shown result ≡ act_of moment (answer_of seen found.now) }
 {
     match seen {
-        AnswerKind::Hit(_) => ActRef::Hit(found.bytes(), moment),
+        AnswerKind::Hit { .. } => ActRef::Hit(found.bytes(), moment),
         AnswerKind::Miss(_) => ActRef::Miss,
     }
 }

@@ -53,7 +53,7 @@ pub(crate) fn live_item(seen: AnswerKind, found: &[u8], flushed: u64) -> Option<
     ensures within { IfSome result (λ item. length item.bytes.now ≤ length found.now) }
 {
     match seen {
-        AnswerKind::Hit(_) => {
+        AnswerKind::Hit { .. } => {
             let item = CacheItem::decode(found)?;
             if item.head.cas < flushed {
                 return None;

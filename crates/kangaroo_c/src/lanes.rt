@@ -1,7 +1,8 @@
 // Opening and closing a lane, and its calls.
 ghost use Rattle.std.specs.Prelude.{◌≡◌, None};
 ghost use Rattle.record_pages.specs.Bounded.{IsKey};
-ghost use Rattle.c_lane.specs.Getting.{Answers, AnswersOrLeases, RefusesGet};
+ghost use Rattle.c_lane.specs.Getting.{Answers, AnswersOrLeases, LeasesKey, RefusesGet};
+ghost use Rattle.c_lane.specs.declared.status.Status.{Status};
 ghost use Rattle.c_lane.specs.Putting.{Puts, PutsOrRemoves, FillsOrNot, RemovesKey};
 ghost use Rattle.kangaroo_c.specs.Telling.{IsFull, Tells, TellsDue, TellsOpening, page_laws};
 
@@ -84,6 +85,22 @@ pub extern "C" fn kl_get_or_lease(
 {
     let mut kept = take_lane(alloc, lane);
     let status = kept.lane.get_or_lease(key, moment, into, hit, writes);
+    put_back(lane, kept);
+    status.number()
+}
+
+/// Leases a key, whether it is there or not.
+#[unsafe(no_mangle)]
+pub extern "C" fn kl_lease(alloc: Global, lane: &mut Handle, key: &[u8], writes: &mut u64) -> i32
+    requires { IsFull lane.old.lane }
+    ensures leased { IsKey key.now → Tells (λ status old new. LeasesKey key.now old status new writes.new)
+        result lane.old.lane lane.new.lane }
+    ensures wrong_key { (IsKey key.now → ⊥) → Tells
+        (λ status old new. (status ≡ Status.WrongKey) × (new ≡ old) × (writes.new ≡ writes.old))
+        result lane.old.lane lane.new.lane }
+{
+    let mut kept = take_lane(alloc, lane);
+    let status = kept.lane.lease(key, writes);
     put_back(lane, kept);
     status.number()
 }

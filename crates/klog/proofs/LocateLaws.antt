@@ -15,6 +15,7 @@ use Rattle.klog.specs.declared.located_in_log.LocatedInLog.{LocatedInLog}
 use Rattle.klog.specs.declared.located_in_log.LocatedInLog.TheVariants as located
 use Rattle.klog.specs.Log.{LogState}
 use Rattle.klog.specs.Shown.{live_on, place_in, IsLiveOn, IsSpelledOn}
+use Rattle.klog.specs.Find.{HasLive}
 use Rattle.klog.specs.Known.{no_pages, AreHeldBy, AreBuffered}
 use Rattle.klog.specs.Look.{is_log_fault, lowered_in, LogLookLeaves, GivesRecord, LogLookGives, ShowsOther, ExpiredAt, FailsAt, DamagedAt, LooksAt}
 use Rattle.klog.specs.Locate.{looked_of, is_hit, log_after, IsOfTag, NamesReached, NamesNewest, LogLocates}
@@ -26,7 +27,7 @@ use Rattle.klog.proofs.InBuffers.{told_by_buffers}
 
 -- what a search shows of each answer, whatever else is known of the pages
 abbrev pub FindsAt : ℕ → (ℕ → Option (List ℕ)) → LogState → ℕ → ℕ → List ℕ → ℕ → List ℕ → Type 0 → LocatedInLog → Type 0
-FindsAt bytes held k set tag key moment buffer not_called (located.Hit e) = NamesReached bytes held k set tag key moment buffer (located.Hit e)
+FindsAt bytes held k set tag key moment buffer not_called (located.Hit e expires) = NamesReached bytes held k set tag key moment buffer (located.Hit e expires)
 FindsAt bytes held k set tag key moment buffer not_called located.Expired = ExpiredAt bytes held k set tag key moment k not_called
 FindsAt bytes held k set tag key moment buffer not_called located.Absent = All (ShowsOther bytes held k key) (of_tag set tag k.entries)
 FindsAt bytes held k set tag key moment buffer not_called located.Fault = FailsAt bytes held k set tag key
@@ -35,7 +36,7 @@ FindsAt bytes held k set tag key moment buffer not_called located.Damaged = Dama
 module _ (bytes : ℕ) (held : ℕ → Option (List ℕ)) (k : LogState) (key : List ℕ) (moment : ℕ) (placed : Placed) (buffer : List ℕ) (nc : Type 0) where
   -- the entry of a hit is named
   names_reached : (f : LocatedInLog) → FindsAt bytes held k placed.set placed.tag key moment buffer nc f → NamesReached bytes held k placed.set placed.tag key moment buffer f
-  names_reached (located.Hit e) at = at
+  names_reached (located.Hit e expires) at = at
   names_reached located.Expired at = tt
   names_reached located.Absent at = tt
   names_reached located.Fault at = tt
@@ -44,11 +45,11 @@ module _ (bytes : ℕ) (held : ℕ → Option (List ℕ)) (k : LogState) (key : 
   -- and what is shown lies behind a look-up's answer
   looks_by : (f : LocatedInLog) → IsOfTag k placed.set placed.tag nc f → FindsAt bytes held k placed.set placed.tag key moment buffer nc f
       → LooksAt bytes held k placed.set placed.tag key moment (Ok (looked_of f buffer)) (log_after f k) nc
-  looks_by (located.Hit e) its at = record {
+  looks_by (located.Hit e expires) its at = record {
     entry = e;
     reached = at.0;
     lowered = lowered_there k (lowered_in k e.set e.place) placed.set placed.tag e its.0 refl;
-    shows = at.1;
+    shows = shows_weaker bytes held k e (λ r. (has_key key r ≡ true) × HasLive moment buffer expires r) (λ r. (has_key key r ≡ true) × (value_at moment r.value ≡ Some buffer)) (λ r live. (live.0, live.1.0)) at.1;
     uncalled = its.1;
   }
   looks_by located.Expired its at = at
@@ -58,7 +59,7 @@ module _ (bytes : ℕ) (held : ℕ → Option (List ℕ)) (k : LogState) (key : 
 
   -- and if all live records are known the entry is that of the newest
   names_newest : placed ≡ place_in k.shape key → IsSpelledOn bytes held k → (f : LocatedInLog) → FindsAt bytes held k placed.set placed.tag key moment buffer nc f → NamesNewest (live_on held k) key moment buffer f
-  names_newest is spelled (located.Hit e) at = hit_newest bytes held k key moment placed e (Some buffer) is spelled at.0 at.1
+  names_newest is spelled (located.Hit e expires) at = hit_newest bytes held k key placed e (HasLive moment buffer expires) is spelled at.0 at.1
   names_newest is spelled located.Expired at = tt
   names_newest is spelled located.Absent at = tt
   names_newest is spelled located.Fault at = tt
@@ -67,16 +68,16 @@ module _ (bytes : ℕ) (held : ℕ → Option (List ℕ)) (k : LogState) (key : 
   -- so the answer is by the live records
   gives_by : (held' : ℕ → Option (List ℕ)) → held' ≡ held → placed ≡ place_in k.shape key → IsSpelledOn bytes held k → (f : LocatedInLog) → FindsAt bytes held k placed.set placed.tag key moment buffer nc f
       → LogLookGives (live_on held k) key moment k (looked_of f buffer) (log_after f k) (live_on held' (log_after f k))
-  gives_by held' same is spelled (located.Hit e) at =
+  gives_by held' same is spelled (located.Hit e expires) at =
       let new = lowered_in k e.set e.place in
-      let newest = hit_newest bytes held k key moment placed e (Some buffer) is spelled at.0 at.1 in
+      let newest = hit_newest bytes held k key placed e (HasLive moment buffer expires) is spelled at.0 at.1 in
       subst (λ (o : Option (Entry × Rec)). IsSomeAnd o (GivesRecord (live_on held k) moment buffer k new (live_on held' new))) (sym newest.1) (record {
-        its = newest.2;
+        its = newest.2.0;
         lowered = refl;
         left = ap (λ (h : ℕ → Option (List ℕ)). live_on h new) same ∙ live_on-lowered held k (is_in e.set e.place);
       })
   gives_by held' same is spelled located.Expired at =
-      let newest = hit_newest bytes held k key moment placed at.entry None is spelled at.reached at.shows in (
+      let newest = hit_newest bytes held k key placed at.entry (λ r. value_at moment r.value ≡ None) is spelled at.reached at.shows in (
         subst (λ (o : Option (Entry × Rec)). IsSomeAnd o (λ x. value_at moment x.1.value ≡ None)) (sym newest.1) newest.2,
         record { log = refl; left = ap (λ (h : ℕ → Option (List ℕ)). live_on h k) same },
       )
@@ -92,7 +93,7 @@ module _ (bytes : ℕ) (held : ℕ → Option (List ℕ)) (k : LogState) (key : 
 
 -- what a hit leaves, and all else
 leaves_by : (k : LogState) (set tag : ℕ) (buffer : List ℕ) (nc : Type 0) (f : LocatedInLog) → IsOfTag k set tag nc f → LogLookLeaves k set tag (Ok (looked_of f buffer)) (log_after f k) nc
-leaves_by k set tag buffer nc (located.Hit e) its = record {
+leaves_by k set tag buffer nc (located.Hit e expires) its = record {
   entry = e;
   listed = its.0;
   lowered = lowered_there k (lowered_in k e.set e.place) set tag e its.0 refl;
@@ -105,14 +106,14 @@ leaves_by k set tag buffer nc located.Damaged its = refl
 
 -- a log keeps its shape and stays spelled when the entry of a hit is touched
 shape_after : (f : LocatedInLog) (k : LogState) → (log_after f k).shape ≡ k.shape
-shape_after (located.Hit e) k = refl
+shape_after (located.Hit e expires) k = refl
 shape_after located.Expired k = refl
 shape_after located.Absent k = refl
 shape_after located.Fault k = refl
 shape_after located.Damaged k = refl
 
 spelled_after : (bytes : ℕ) (held : ℕ → Option (List ℕ)) (k : LogState) (f : LocatedInLog) → IsSpelledOn bytes held k → IsSpelledOn bytes held (log_after f k)
-spelled_after bytes held k (located.Hit e) h = spelled_lowered bytes held k (is_in e.set e.place) h
+spelled_after bytes held k (located.Hit e expires) h = spelled_lowered bytes held k (is_in e.set e.place) h
 spelled_after bytes held k located.Expired h = h
 spelled_after bytes held k located.Absent h = h
 spelled_after bytes held k located.Fault h = h
@@ -167,10 +168,10 @@ module _ {D : Type 0} {size : ℕ} {pages : D → ℕ} {honest : D → Bool} {fa
       (subst (λ (v : List ℕ). LogLooks size pages honest failures held placed key' moment k device (Ok (looked_of f v)) (log_after f k) device') same_value
       (subst (λ (q : List ℕ). LogLooks size pages honest failures held placed q moment k device (Ok (looked_of f buffer)) (log_after f k) device') same_key (answers h)))
 
-module _ {D : Type 0} {size : ℕ} {pages : D → ℕ} {honest : D → Bool} {failures : D → ℕ} {held : D → ℕ → Option (List ℕ)} {placed : Placed} {key : List ℕ} {moment : ℕ} {k : LogState} {device : D} {was : List ℕ} {e : Entry} {device' : D} {buffer : List ℕ} where
+module _ {D : Type 0} {size : ℕ} {pages : D → ℕ} {honest : D → Bool} {failures : D → ℕ} {held : D → ℕ → Option (List ℕ)} {placed : Placed} {key : List ℕ} {moment : ℕ} {k : LogState} {device : D} {was : List ℕ} {e : Entry} {expires : ℕ} {device' : D} {buffer : List ℕ} where
   -- if memory for the value of a hit is refused the log stays
   pub wants : (key' : List ℕ) (err : AllocError) → key ≡ key'
-      → LogLocates size pages honest failures held placed key moment k device was (located.Hit e) device' buffer
+      → LogLocates size pages honest failures held placed key moment k device was (located.Hit e expires) device' buffer
       → LogLooks size pages honest failures held placed key' moment k device (Err err) k device'
   wants key' err same_key h = subst (λ (q : List ℕ). LogLooks size pages honest failures held placed q moment k device (Err err) k device') same_key (record {
     reads = h.reads;
@@ -183,7 +184,7 @@ module _ {D : Type 0} {size : ℕ} {pages : D → ℕ} {honest : D → Bool} {fa
         record {
           entry = e;
           reached = at.0;
-          shows = shows_weaker size known k e (λ r. (has_key key r ≡ true) × (value_at moment r.value ≡ Some buffer)) (λ r. has_key key r ≡ true) (λ r both. both.0) at.1;
+          shows = shows_weaker size known k e (λ r. (has_key key r ≡ true) × HasLive moment buffer expires r) (λ r. has_key key r ≡ true) (λ r both. both.0) at.1;
         };
     gives = λ on spelled. tt;
     spelled = λ on spelled. subst (λ (now : ℕ → Option (List ℕ)). IsSpelledOn size now k) (sym (h.reads.same on)) spelled;

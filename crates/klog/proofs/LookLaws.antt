@@ -234,16 +234,16 @@ newest_in bytes held k key placed is spelled =
     ap (λ (p : Placed). newest_with (live_by (shown_on held k) (of_tag p.set p.tag k.entries)) key) is ∙ newest_of_tag bytes held k key spelled
 
 -- if the search came to an entry that shows the key, its record is the newest live one of the key
-pub hit_newest : (bytes : ℕ) (held : ℕ → Option (List ℕ)) (k : LogState) (key : List ℕ) (moment : ℕ) (placed : Placed) (e : Entry) (gives : Option (List ℕ)) → placed ≡ place_in k.shape key → IsSpelledOn bytes held k
-    → IsReached bytes held k placed.set placed.tag key e → ShowsIfHad bytes held k e (λ r. (has_key key r ≡ true) × (value_at moment r.value ≡ gives)) → (r : Rec) × (newest_with (live_on held k) key ≡ Some (e, r)) × (value_at moment r.value ≡ gives)
-hit_newest bytes held k key moment placed e gives is spelled reached shows =
+pub hit_newest : (bytes : ℕ) (held : ℕ → Option (List ℕ)) (k : LogState) (key : List ℕ) (placed : Placed) (e : Entry) (P : Rec → Type 0) → placed ≡ place_in k.shape key → IsSpelledOn bytes held k
+    → IsReached bytes held k placed.set placed.tag key e → ShowsIfHad bytes held k e (λ r. (has_key key r ≡ true) × P r) → (r : Rec) × (newest_with (live_on held k) key ≡ Some (e, r)) × P r
+hit_newest bytes held k key placed e P is spelled reached shows =
     let es = of_tag placed.set placed.tag k.entries in
     let behind = reached.behind in
     let live = spelled_live bytes held k placed.set placed.tag spelled in
     let newer : All (OtherBy (shown_on held k) key) (take behind es) = spelled_other bytes held k key (take behind es) (All-take (IsLiveOn bytes held k) behind es live) reached.newer in
     let here : IsLiveOn bytes held k e = All-contains (IsLiveOn bytes held k) es e live (reached_listed bytes held k placed.set placed.tag key e reached) in
-    let hit : (r : Rec) × (shown_on held k e ≡ Some r) × (has_key key r ≡ true) × (value_at moment r.value ≡ gives) =
-    known (shown_on held k e) refl (shows_live bytes held k e (λ r. (has_key key r ≡ true) × (value_at moment r.value ≡ gives)) here shows) in (
+    let hit : (r : Rec) × (shown_on held k e ≡ Some r) × (has_key key r ≡ true) × P r =
+    known (shown_on held k e) refl (shows_live bytes held k e (λ r. (has_key key r ≡ true) × P r) here shows) in (
       hit.0,
       sym (newest_in bytes held k key placed is spelled)
           ∙ ap (λ (xs : List Entry). newest_with (live_by (shown_on held k) xs) key) (split_at es behind e reached.at)
@@ -251,7 +251,7 @@ hit_newest bytes held k key moment placed e gives is spelled reached shows =
       hit.3,
     )
   where
-    known : (o : Option Rec) → shown_on held k e ≡ o → IsSomeAnd o (λ r. (has_key key r ≡ true) × (value_at moment r.value ≡ gives)) → (r : Rec) × (shown_on held k e ≡ Some r) × (has_key key r ≡ true) × (value_at moment r.value ≡ gives)
+    known : (o : Option Rec) → shown_on held k e ≡ o → IsSomeAnd o (λ r. (has_key key r ≡ true) × P r) → (r : Rec) × (shown_on held k e ≡ Some r) × (has_key key r ≡ true) × P r
     known (Some r) at h = (r, at, h.0, h.1)
     known None at h = absurd h
 

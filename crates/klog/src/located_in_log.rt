@@ -4,8 +4,9 @@ use klog_index::Entry;
 /// What a search for a key in the log finds at a moment.
 #[derive(Clone, Copy, Debug, PartialEq, Eq)]
 pub enum LocatedInLog {
-    /// The newest live record with the key is this entry's. It has not expired, and its value is in the buffer.
-    Hit(Entry),
+    /// The newest live record with the key is this entry's. It is live at the moment, expires then (`NEVER` if it does not),
+    /// and its value is in the buffer.
+    Hit { entry: Entry, expires: u64 },
     /// The newest live record with the key has expired.
     Expired,
     /// No live record has the key.

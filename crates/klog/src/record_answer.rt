@@ -3,8 +3,8 @@
 /// What the record of an entry says of a key.
 #[derive(Clone, Copy, Debug)]
 pub(crate) enum RecordAnswer {
-    /// It has the key and is live at the moment, and its value is in the buffer.
-    Hit,
+    /// It has the key and is live at the moment, expires then, and its value is in the buffer.
+    Hit(u64),
     /// It has the key, and has expired.
     Expired,
     /// It has another key.

@@ -32,12 +32,12 @@ use Rattle.kset.proofs.public_laws.ShownLaws.{shown-hit}
 -- what visible records say of a key is what a look-up gives
 gives : (visible : List (ℕ × Rec)) (key : List ℕ) (moment : ℕ) (buffer : List ℕ) (set : ℕ) (k : SetsState) (found : LocatedInSet) → Says visible key moment buffer found →
     SetLookGives visible key moment k set (looked_of found buffer) (sets_after found set k)
-gives visible key moment buffer set k (Hit slot) says = noted (first_visible visible key) says
+gives visible key moment buffer set k (Hit slot expires) says = noted (first_visible visible key) says
   where
-    noted : (o : Option (ℕ × Rec)) → IsSomeAnd o (λ x. (x.0 ≡ slot) × (value_at moment x.1.value ≡ Some buffer)) →
+    noted : (o : Option (ℕ × Rec)) → IsSomeAnd o (λ x. (x.0 ≡ slot) × (x.1.value.expires ≡ expires) × (value_at moment x.1.value ≡ Some buffer)) →
         IsSomeAnd o (λ x. (value_at moment x.1.value ≡ Some buffer) × (hit_in k set slot ≡ hit_in k set x.0))
     noted None h = h
-    noted (Some x) h = (h.1, ap (hit_in k set) (sym h.0))
+    noted (Some x) h = (h.2, ap (hit_in k set) (sym h.0))
 gives visible key moment buffer set k Expired says = (says, refl)
 gives visible key moment buffer set k Absent says = (says, refl)
 gives visible key moment buffer set k Fault says = absurd says
@@ -45,11 +45,11 @@ gives visible key moment buffer set k Damaged says = says
 
 -- and names the first of them
 names : (visible : List (ℕ × Rec)) (key : List ℕ) (moment : ℕ) (buffer : List ℕ) (found : LocatedInSet) → Says visible key moment buffer found → NamesFirst visible key found
-names visible key moment buffer (Hit slot) says = first (first_visible visible key) says
+names visible key moment buffer (Hit slot expires) says = first (first_visible visible key) says
   where
-    first : (o : Option (ℕ × Rec)) → IsSomeAnd o (λ x. (x.0 ≡ slot) × (value_at moment x.1.value ≡ Some buffer)) → IsSomeAnd o (λ x. x.0 ≡ slot)
+    first : (o : Option (ℕ × Rec)) → IsSomeAnd o (λ x. (x.0 ≡ slot) × (x.1.value.expires ≡ expires) × (value_at moment x.1.value ≡ Some buffer)) → IsSomeAnd o (λ x. (x.0 ≡ slot) × (x.1.value.expires ≡ expires))
     first None h = h
-    first (Some x) h = h.0
+    first (Some x) h = (h.0, h.1)
 names visible key moment buffer Expired says = tt
 names visible key moment buffer Absent says = tt
 names visible key moment buffer Fault says = tt
@@ -57,7 +57,7 @@ names visible key moment buffer Damaged says = tt
 
 -- a page tells of no failure of the device
 told_fault : (key : List ℕ) (moment : ℕ) (buffer : List ℕ) (read : Option SetPageParts) (found : LocatedInSet) → SetPageTells key moment buffer read found → is_set_fault (Ok (looked_of found buffer)) ≡ false
-told_fault key moment buffer read (Hit slot) told = refl
+told_fault key moment buffer read (Hit slot expires) told = refl
 told_fault key moment buffer read Expired told = refl
 told_fault key moment buffer read Absent told = refl
 told_fault key moment buffer None Fault told = absurd told
@@ -66,8 +66,8 @@ told_fault key moment buffer read Damaged told = refl
 
 -- it tells of a slot that a page can have
 told_slot : (key : List ℕ) (moment : ℕ) (buffer : List ℕ) (read : Option SetPageParts) (found : LocatedInSet) → SetPageTells key moment buffer read found → IsSlot found
-told_slot key moment buffer None (Hit slot) told = absurd told
-told_slot key moment buffer (Some p) (Hit slot) told = told.0
+told_slot key moment buffer None (Hit slot expires) told = absurd told
+told_slot key moment buffer (Some p) (Hit slot expires) told = told.0
 told_slot key moment buffer read Expired told = tt
 told_slot key moment buffer read Absent told = tt
 told_slot key moment buffer read Fault told = tt
@@ -75,7 +75,7 @@ told_slot key moment buffer read Damaged told = tt
 
 -- no page is damaged
 told_none : (key : List ℕ) (moment : ℕ) (buffer : List ℕ) (found : LocatedInSet) → SetPageTells key moment buffer None found → found ≡ Damaged
-told_none key moment buffer (Hit slot) told = absurd told
+told_none key moment buffer (Hit slot expires) told = absurd told
 told_none key moment buffer Expired told = absurd told
 told_none key moment buffer Absent told = absurd told
 told_none key moment buffer Fault told = absurd told
@@ -90,7 +90,7 @@ told_foreign set (Some there) bytes key moment buffer found foreign same told =
 
 -- a slot that a page can have is left to be touched, and otherwise nothing
 leaves : (set : ℕ) (k : SetsState) (buffer : List ℕ) (found : LocatedInSet) → IsSlot found → SetLookLeaves k set (Ok (looked_of found buffer)) (sets_after found set k)
-leaves set k buffer (Hit slot) within = record { slot = slot; within = within; noted = refl }
+leaves set k buffer (Hit slot expires) within = record { slot = slot; within = within; noted = refl }
 leaves set k buffer Expired within = refl
 leaves set k buffer Absent within = refl
 leaves set k buffer Fault within = refl
@@ -98,7 +98,7 @@ leaves set k buffer Damaged within = refl
 
 -- a touch of what is located shows nothing and hides nothing
 shown_after : (held : ℕ → Option (List ℕ)) (set : ℕ) (k : SetsState) (found : LocatedInSet) → set < set_count k → visible_in held (sets_after found set k) ≡ visible_in held k
-shown_after held set k (Hit slot) within = shown-hit held k set slot within
+shown_after held set k (Hit slot expires) within = shown-hit held k set slot within
 shown_after held set k Expired within = refl
 shown_after held set k Absent within = refl
 shown_after held set k Fault within = refl
@@ -163,9 +163,9 @@ module _ {D : Type 0} (size : ℕ) (pages : D → ℕ) (honest : D → Bool) (fa
       }
 
   -- a look-up that touches the slot of a hit
-  pub looks-hit : (device' : D) (buffer value : List ℕ) (slot : ℕ) (new : SetsState) → Locates (Hit slot) device' buffer → value ≡ buffer → new ≡ hit_in k at.set slot →
+  pub looks-hit : (device' : D) (buffer value : List ℕ) (slot expires : ℕ) (new : SetsState) → Locates (Hit slot expires) device' buffer → value ≡ buffer → new ≡ hit_in k at.set slot →
       KeepsSets size (honest device) (held device) k (held device') new → Looks (Ok (looked.Hit value)) new device'
-  looks-hit device' buffer value slot new l same touched kept =
+  looks-hit device' buffer value slot expires new l same touched kept =
       let noted : SetLookGives (visible_in (held device) k at.set) key moment k at.set (looked.Hit buffer) (hit_in k at.set slot) → SetLookGives (visible_in (held device) k at.set) key moment k at.set (looked.Hit value) new =
       λ gives. subst (λ (n : SetsState). SetLookGives (visible_in (held device) k at.set) key moment k at.set (looked.Hit value) n) (sym touched)
       (subst (λ (v : List ℕ). SetLookGives (visible_in (held device) k at.set) key moment k at.set (looked.Hit v) (hit_in k at.set slot)) (sym same) gives) in
@@ -173,15 +173,15 @@ module _ {D : Type 0} (size : ℕ) (pages : D → ℕ) (honest : D → Bool) (fa
         reads = l.reads;
         keeps = kept;
         leaves = record { slot = slot; within = l.slot; noted = touched };
-        denied = OnFalse_from _ _ (λ hidden. let absent : (Hit slot ≡ Absent) × (device' ≡ device) = OnFalse_at hidden l.denied in absurd (not_absent absent.0));
+        denied = OnFalse_from _ _ (λ hidden. let absent : (Hit slot expires ≡ Absent) × (device' ≡ device) = OnFalse_at hidden l.denied in absurd (not_absent absent.0));
         gives = λ is spelled. noted (l.gives is spelled);
-        foreign = λ is foreign. OnTrue_from _ _ (λ shows. let damaged : Hit slot ≡ Damaged = OnTrue_at shows (l.foreign is foreign) in absurd (not_damaged damaged));
+        foreign = λ is foreign. OnTrue_from _ _ (λ shows. let damaged : Hit slot expires ≡ Damaged = OnTrue_at shows (l.foreign is foreign) in absurd (not_damaged damaged));
         short = λ _ _. tt;
         shown = λ is. ap (visible_in (held device')) touched ∙ l.shown is;
       }
     where
-      not_absent : Hit slot ≡ Absent → ⊥
+      not_absent : Hit slot expires ≡ Absent → ⊥
       not_absent e = cc
 
-      not_damaged : Hit slot ≡ Damaged → ⊥
+      not_damaged : Hit slot expires ≡ Damaged → ⊥
       not_damaged e = cc

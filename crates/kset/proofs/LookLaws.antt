@@ -95,7 +95,7 @@ reads_page size count set held bytes within p known =
 
 -- what a page says of a key, in terms of the visible records
 abbrev pub Says : List (ℕ × Rec) → List ℕ → ℕ → List ℕ → LocatedInSet → Type 0
-Says visible key moment buffer (Hit slot) = IsSomeAnd (first_visible visible key) (λ x. (x.0 ≡ slot) × (value_at moment x.1.value ≡ Some buffer))
+Says visible key moment buffer (Hit slot expires) = IsSomeAnd (first_visible visible key) (λ x. (x.0 ≡ slot) × (x.1.value.expires ≡ expires) × (value_at moment x.1.value ≡ Some buffer))
 Says visible key moment buffer Expired = IsSomeAnd (first_visible visible key) (λ x. value_at moment x.1.value ≡ None)
 Says visible key moment buffer Absent = first_visible visible key ≡ None
 Says visible key moment buffer Fault = ⊥
@@ -103,8 +103,8 @@ Says visible key moment buffer Damaged = ⊥
 
 says_of : (visible : List (ℕ × Rec)) (key : List ℕ) (moment : ℕ) (buffer : List ℕ) (p : SetPageParts) (told : LocatedInSet) → first_visible visible key ≡ first_with key p.records → SetPageTells key moment buffer (Some p) told →
     Says visible key moment buffer told
-says_of visible key moment buffer p (Hit slot) first t =
-    let P : Option (ℕ × Rec) → Type 0 = λ o. IsSomeAnd o (λ x. (x.0 ≡ slot) × (value_at moment x.1.value ≡ Some buffer)) in
+says_of visible key moment buffer p (Hit slot expires) first t =
+    let P : Option (ℕ × Rec) → Type 0 = λ o. IsSomeAnd o (λ x. (x.0 ≡ slot) × (x.1.value.expires ≡ expires) × (value_at moment x.1.value ≡ Some buffer)) in
     subst P (sym first) t.1
 says_of visible key moment buffer p Expired first t =
     let P : Option (ℕ × Rec) → Type 0 = λ o. IsSomeAnd o (λ x. value_at moment x.1.value ≡ None) in
@@ -133,12 +133,12 @@ told_of size count set held bytes key moment buffer hash notes told hashed shows
 
 -- what is said of a live record, the first of a page with the key
 pub tells_hit : (key : List ℕ) (moment : ℕ) (buffer : List ℕ) (slot : ℕ) (p : SetPageParts) (r : Rec) (read : Option SetPageParts) → Some p ≡ read → length p.records ≤ max_set_records →
-    first_with key p.records ≡ Some (slot, r) → value_at moment r.value ≡ Some buffer → SetPageTells key moment buffer read (Hit slot)
+    first_with key p.records ≡ Some (slot, r) → value_at moment r.value ≡ Some buffer → SetPageTells key moment buffer read (Hit slot r.value.expires)
 tells_hit key moment buffer slot p r read is few found gives =
     let within : slot < max_set_records = omega (arith, first_within key 0 p.records (slot, r) found, few) in
-    let P : Option (ℕ × Rec) → Type 0 = λ o. IsSomeAnd o (λ x. (x.0 ≡ slot) × (value_at moment x.1.value ≡ Some buffer)) in
-    let told : SetPageTells key moment buffer (Some p) (Hit slot) = (within, subst P (sym found) (refl, gives)) in
-    subst (λ (o : Option SetPageParts). SetPageTells key moment buffer o (Hit slot)) is told
+    let P : Option (ℕ × Rec) → Type 0 = λ o. IsSomeAnd o (λ x. (x.0 ≡ slot) × (x.1.value.expires ≡ r.value.expires) × (value_at moment x.1.value ≡ Some buffer)) in
+    let told : SetPageTells key moment buffer (Some p) (Hit slot r.value.expires) = (within, subst P (sym found) (refl, refl, gives)) in
+    subst (λ (o : Option SetPageParts). SetPageTells key moment buffer o (Hit slot r.value.expires)) is told
 
 -- what is said of one that has expired
 pub tells_expired : (key : List ℕ) (moment : ℕ) (buffer : List ℕ) (slot : ℕ) (p : SetPageParts) (r : Rec) (read : Option SetPageParts) → Some p ≡ read →

@@ -19,7 +19,7 @@ use Rattle.kset.specs.Keeps.{KeepsSets}
 
 -- what a look-up answers by what is located: the value of a hit is what the buffer holds
 abbrev pub looked_of : LocatedInSet → List ℕ → Looked
-looked_of (located.Hit slot) buffer = looked.Hit buffer
+looked_of (located.Hit slot expires) buffer = looked.Hit buffer
 looked_of located.Expired buffer = looked.Expired
 looked_of located.Absent buffer = looked.Absent
 looked_of located.Fault buffer = looked.Fault
@@ -27,27 +27,27 @@ looked_of located.Damaged buffer = looked.Damaged
 
 -- a hit is located
 abbrev pub is_hit : LocatedInSet → Bool
-is_hit (located.Hit slot) = true
+is_hit (located.Hit slot expires) = true
 is_hit _ = false
 
 -- the sets once the slot of a hit in this set is touched; any other answer leaves nothing to touch
 abbrev pub sets_after : LocatedInSet → ℕ → SetsState → SetsState
-sets_after (located.Hit slot) set k = hit_in k set slot
+sets_after (located.Hit slot expires) set k = hit_in k set slot
 sets_after _ set k = k
 
 -- the slot of a hit is one that a page can have
 abbrev pub IsSlot : LocatedInSet → Type 0
-IsSlot (located.Hit slot) = slot < max_set_records
+IsSlot (located.Hit slot expires) = slot < max_set_records
 IsSlot _ = Unit {0}
 
--- the slot of a hit is that of the first of these visible records with the key
+-- the slot of a hit is that of the first of these visible records with the key, which expires then
 abbrev pub NamesFirst : List (ℕ × Rec) → List ℕ → LocatedInSet → Type 0
-NamesFirst visible key (located.Hit slot) = IsSomeAnd (first_visible visible key) (λ x. x.0 ≡ slot)
+NamesFirst visible key (located.Hit slot expires) = IsSomeAnd (first_visible visible key) (λ x. (x.0 ≡ slot) × (x.1.value.expires ≡ expires))
 NamesFirst visible key _ = Unit {0}
 
 -- A search for a key. It changes nothing but the device, of which it only reads, and the buffer, which holds the value of a
 -- hit. A key that the filter denies is absent without a call of the device. The answer is what a look-up gives, once the slot
--- of a hit is touched; and it names that slot. Off a page that is not the set's, it is damaged.
+-- of a hit is touched; and it names that slot, and when the record expires. Off a page that is not the set's, it is damaged.
 pub record SetLocates {D : Type 0} (size : ℕ) (pages : D → ℕ) (honest : D → Bool) (failures : D → ℕ) (held : D → ℕ → Option (List ℕ)) (placed : Placed) (key : List ℕ) (moment : ℕ) (k : SetsState) (device : D) (was : List ℕ) (found : LocatedInSet) (device' : D) (buffer : List ℕ) : Type 0 where
   pub reads : OnlyReads pages honest failures held device (is_set_fault (Ok (looked_of found buffer))) device'
   pub keeps : KeepsSets size (honest device) (held device) k (held device') k

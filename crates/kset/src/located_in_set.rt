@@ -3,9 +3,9 @@
 /// What a look-up of a key in a set finds, whose value goes into room of the caller's.
 #[derive(Clone, Copy, Debug, PartialEq, Eq)]
 pub enum LocatedInSet {
-    /// The first visible record with the key lies in this slot of the set's page. It is live at the moment, and its
-    /// value is in the buffer.
-    Hit { slot: usize },
+    /// The first visible record with the key lies in this slot of the set's page. It is live at the moment, expires then
+    /// (`NEVER` if it does not), and its value is in the buffer.
+    Hit { slot: usize, expires: u64 },
     /// The first visible record with the key has expired.
     Expired,
     /// No visible record has the key.

@@ -43,5 +43,8 @@ pub(crate) fn tell<const PAGE: usize>(
         return LocatedInSet::Expired;
     }
     into.set(found.lent.value);
-    LocatedInSet::Hit { slot: found.slot }
+    LocatedInSet::Hit {
+        slot: found.slot,
+        expires: found.lent.expires,
+    }
 }

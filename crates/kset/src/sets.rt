@@ -58,8 +58,8 @@ impl<const PAGE: usize> KSet<PAGE> {
         })
     }
 
-    /// The slot of the first visible record of a key, if it is live at the moment. Its value goes into the buffer; all
-    /// other answers leave the buffer as it was. A key that the filter denies or that is struck is absent without a
+    /// The slot of the first visible record of a key, and when that expires, if it is live at the moment. Its value goes into
+    /// the buffer; all other answers leave the buffer as it was. A key that the filter denies or that is struck is absent without a
     /// call of the device. Nothing is noted, and no memory is taken.
     pub fn locate<D: PageDevice<PAGE>>(
         &self,
@@ -119,7 +119,7 @@ impl<const PAGE: usize> KSet<PAGE> {
     {
         let mut found = ValueBuffer::empty();
         match self.locate(device, placed, key.bytes(), moment, &mut found) {
-            LocatedInSet::Hit { slot } => {
+            LocatedInSet::Hit { slot, expires: _ } => {
                 let Ok(value) = Value::new(alloc, found.bytes()) else {
                     return Err(AllocError);
                 };

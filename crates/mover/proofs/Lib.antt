@@ -6,6 +6,7 @@ mod Getting
 mod Telling
 mod Recalling
 mod Touching
+mod Timing
 mod Putting
 mod Firsts
 mod Placing

@@ -33,7 +33,7 @@ use Rattle.mover.proofs.Telling.{log_faulty, ended_leaves, ended_in_buffers, end
 
 -- what a set locates is answered as a set's answer is
 pub in_set_answer : (n : ℕ) (l : LocatedInSet) (buffer : List ℕ) → answer_of_set (set_looked_of l buffer) ≡ answer_at (in_set n l) buffer
-in_set_answer n (set.Hit slot) buffer = refl
+in_set_answer n (set.Hit slot expires) buffer = refl
 in_set_answer n set.Expired buffer = refl
 in_set_answer n set.Absent buffer = refl
 in_set_answer n set.Fault buffer = refl
@@ -41,7 +41,7 @@ in_set_answer n set.Damaged buffer = refl
 
 -- and its touch is that of the sets
 pub in_set_touched : {D : Type 0} (key : List ℕ) (n : ℕ) (l : LocatedInSet) (s : StoreState D) → record s { sets = sets_after l n s.sets } ≡ touched key (in_set n l) s
-in_set_touched key n (set.Hit slot) s = refl
+in_set_touched key n (set.Hit slot expires) s = refl
 in_set_touched key n set.Expired s = refl
 in_set_touched key n set.Absent s = refl
 in_set_touched key n set.Fault s = refl
@@ -49,7 +49,7 @@ in_set_touched key n set.Damaged s = refl
 
 -- it can be touched
 pub in_set_can : (n : ℕ) (l : LocatedInSet) (sets : ℕ) → IsSlot l → n < sets → IsOfSets (in_set n l) sets
-in_set_can n (set.Hit slot) sets is within = (within, is)
+in_set_can n (set.Hit slot expires) sets is within = (within, is)
 in_set_can n set.Expired sets is within = tt
 in_set_can n set.Absent sets is within = tt
 in_set_can n set.Fault sets is within = tt
@@ -57,7 +57,7 @@ in_set_can n set.Damaged sets is within = tt
 
 -- the buffer stays if no value is located
 pub in_set_stays : (n : ℕ) (l : LocatedInSet) (same : Type 0) → OnFalse (is_set_hit l) same → OnFalse (has_value (in_set n l)) same
-in_set_stays n (set.Hit slot) same stays = tt
+in_set_stays n (set.Hit slot expires) same stays = tt
 in_set_stays n set.Expired same stays = stays
 in_set_stays n set.Absent same stays = stays
 in_set_stays n set.Fault same stays = stays
@@ -150,13 +150,13 @@ module _ {D : Type 0} (size : ℕ) (honest : D → Bool) (failures : D → ℕ) 
   }
     where
       device : (l : Located) → mid.device ≡ (touched key l mid).device
-      device at.Memory = refl
-      device (at.Log e) = refl
-      device (at.Set set slot) = refl
+      device (at.Memory expires) = refl
+      device (at.Log e expires) = refl
+      device (at.Set set slot expires) = refl
       device (at.Miss cause) = refl
 
       calm : (l : Located) → has_value l ≡ true → OnlyReads honest failures held old (is_fault (Ok (answer_at l buffer))) (touched key l mid) → OnlyReads honest failures held old false mid
-      calm at.Memory has reads = record { layout = reads.layout; honesty = reads.honesty; failed_once = reads.failed_once; same = reads.same }
-      calm (at.Log e) has reads = record { layout = reads.layout; honesty = reads.honesty; failed_once = reads.failed_once; same = reads.same }
-      calm (at.Set set slot) has reads = record { layout = reads.layout; honesty = reads.honesty; failed_once = reads.failed_once; same = reads.same }
+      calm (at.Memory expires) has reads = record { layout = reads.layout; honesty = reads.honesty; failed_once = reads.failed_once; same = reads.same }
+      calm (at.Log e expires) has reads = record { layout = reads.layout; honesty = reads.honesty; failed_once = reads.failed_once; same = reads.same }
+      calm (at.Set set slot expires) has reads = record { layout = reads.layout; honesty = reads.honesty; failed_once = reads.failed_once; same = reads.same }
       calm (at.Miss cause) has reads = absurd cc

@@ -17,5 +17,6 @@ pub mod Commit
 pub mod Whole
 pub mod Calls
 pub mod Touch
+pub mod Timed
 pub mod Recall
 pub mod Laws

@@ -30,9 +30,9 @@ use Rattle.mover.specs.Store.{StoreState, OnlyReads}
 
 -- the answer by where a key is located, with this in the buffer
 abbrev pub answer_at : Located → List ℕ → Answer
-answer_at at.Memory buffer = Hit buffer Memory
-answer_at (at.Log e) buffer = Hit buffer Log
-answer_at (at.Set set slot) buffer = Hit buffer Set
+answer_at (at.Memory expires) buffer = Hit buffer Memory
+answer_at (at.Log e expires) buffer = Hit buffer Log
+answer_at (at.Set set slot expires) buffer = Hit buffer Set
 answer_at (at.Miss cause) buffer = Miss cause
 
 -- a value is located
@@ -43,16 +43,16 @@ has_value _ = true
 -- The store after a touch of what is located: the key's pair comes to the front of memory, or the entry is asked for once more,
 -- or the slot is noted as hit. Nothing else changes, and without a value nothing.
 abbrev pub touched : {D : Type 0} → List ℕ → Located → StoreState D → StoreState D
-touched key at.Memory s = record s { memory = after_get key s.memory }
-touched key (at.Log e) s = record s { log = lowered_in s.log e.set e.place }
-touched key (at.Set set slot) s = record s { sets = hit_in s.sets set slot }
+touched key (at.Memory expires) s = record s { memory = after_get key s.memory }
+touched key (at.Log e expires) s = record s { log = lowered_in s.log e.set e.place }
+touched key (at.Set set slot expires) s = record s { sets = hit_in s.sets set slot }
 touched key (at.Miss cause) s = s
 
 -- what is located is the slot of a page, if it is on one, and of one of this many sets
 abbrev pub IsOfSets : Located → ℕ → Type 0
-IsOfSets at.Memory sets = Unit {0}
-IsOfSets (at.Log e) sets = Unit {0}
-IsOfSets (at.Set set slot) sets = (set < sets) × (slot < max_set_records)
+IsOfSets (at.Memory expires) sets = Unit {0}
+IsOfSets (at.Log e expires) sets = Unit {0}
+IsOfSets (at.Set set slot expires) sets = (set < sets) × (slot < max_set_records)
 IsOfSets (at.Miss cause) sets = Unit {0}
 
 -- what is located can be touched
@@ -65,7 +65,7 @@ with_flash s device log sets = record s { device = device; log = log; sets = set
 
 -- where a store has a key, by what the set of this number locates
 abbrev pub in_set : ℕ → LocatedInSet → Located
-in_set n (set.Hit slot) = at.Set n slot
+in_set n (set.Hit slot expires) = at.Set n slot expires
 in_set n set.Expired = at.Miss Expired
 in_set n set.Absent = at.Miss Absent
 in_set n set.Fault = at.Miss Fault

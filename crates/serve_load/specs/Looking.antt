@@ -17,7 +17,7 @@ use Rattle.serve_load.specs.Words.{IsRight, JudgesHit}
 
 -- a look-up that gave this, and these bytes at a hit, went so: a hit is judged, a miss is done, and a refusal is refused
 abbrev pub Judges : ServeLoad → ℕ → ℕ → ℕ → Result AnswerKind SeatFault → List ℕ → CallEnd → Type 0
-Judges load key known moment (Ok (Hit tier)) bytes step = JudgesHit load key known moment bytes step
+Judges load key known moment (Ok (Hit tier expires)) bytes step = JudgesHit load key known moment bytes step
 Judges load key known moment (Ok (Miss cause)) bytes step = step ≡ Done
 Judges load key known moment (Err fault) bytes step = step ≡ Refused
 

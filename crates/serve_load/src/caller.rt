@@ -307,13 +307,13 @@ impl<L: KeyLanes, J: BookName> Caller<L, J> {
         let known = self.words[key as usize];
         match cache.get_or_lease(rt, &mut self.seat, &name, moment, found) {
             Ok(LookedUp::Miss(_, lease)) => self.fill(rt, alloc, cache, load, lease, key, number),
-            Ok(LookedUp::Hit(tier)) => {
+            Ok(LookedUp::Hit { tier, expires }) => {
                 judged(
                     load,
                     key,
                     known,
                     moment,
-                    Ok(AnswerKind::Hit(tier)),
+                    Ok(AnswerKind::Hit { tier, expires }),
                     found.bytes(),
                 )
             }

@@ -23,7 +23,7 @@ pub(crate) fn judged(
     ensures { Judges load.now key known moment seen bytes.now result }
 {
     match seen {
-        Ok(AnswerKind::Hit(_)) => {
+        Ok(AnswerKind::Hit { .. }) => {
             if is_right(load, key, known, moment, bytes) {
                 CallEnd::Done
             } else {

@@ -14,7 +14,10 @@ use Rattle.certificate_checker.specs.Latest.{IsLive}
 use Rattle.certificate_checker.proofs.public_laws.LatestLemmas.{current-push, deed_kept, live_is, live_found}
 use Rattle.deeds.specs.Sound.{act_of}
 use Rattle.deeds.proofs.public_laws.Sounding.{reads}
-use Rattle.service_lane.specs.Asked.{IsLiveHit}
+use Rattle.mover.specs.declared.answer_kind.AnswerKind.{AnswerKind}
+use Rattle.mover.specs.declared.answer_kind.AnswerKind.TheVariants as kinds
+use Rattle.record_pages.specs.Expiry.{timed}
+use Rattle.service_lane.specs.Asked.{IsLiveHit, TellsExpiry}
 use Rattle.deed_book.specs.Parts.{part_of}
 
 -- the deeds of the lane of a key alone give it what all give it
@@ -65,3 +68,14 @@ live_hit_by honest deeds writes key moment (answers.Hit value Memory) has live =
 live_hit_by honest deeds writes key moment (answers.Hit value Log) has live = λ is. live_by deeds writes key value moment has (live is)
 live_hit_by honest deeds writes key moment (answers.Hit value Set) has live = λ is. live_by deeds writes key value moment has (live is)
 live_hit_by honest deeds writes key moment (answers.Miss cause) has live = tt
+
+-- what the key has there, with its expiry, it has here
+timed_by : (deeds writes : List Deed) (key value : List ℕ) (expires : ℕ) → (current deeds key ≡ None) ⊎ (current deeds key ≡ current writes key) → current deeds key ≡ Some (timed value expires) → current writes key ≡ Some (timed value expires)
+timed_by deeds writes key value expires (inl none) has = let no : None ≡ Some (timed value expires) = sym none ∙ has in absurd cc
+timed_by deeds writes key value expires (inr same) has = sym same ∙ has
+
+pub expiry_by : (honest : Type 0) (deeds writes : List Deed) (key value : List ℕ) (seen : AnswerKind) → (current deeds key ≡ None) ⊎ (current deeds key ≡ current writes key) → TellsExpiry honest deeds key value seen → TellsExpiry honest writes key value seen
+expiry_by honest deeds writes key value (kinds.Hit Memory expires) has told = timed_by deeds writes key value expires has told
+expiry_by honest deeds writes key value (kinds.Hit Log expires) has told = λ is. timed_by deeds writes key value expires has (told is)
+expiry_by honest deeds writes key value (kinds.Hit Set expires) has told = λ is. timed_by deeds writes key value expires has (told is)
+expiry_by honest deeds writes key value (kinds.Miss cause) has told = tt

@@ -9,10 +9,11 @@ use Rattle.certificate_checker.specs.Deeds.{Deed}
 use Rattle.certificate_checker.specs.Current.{current}
 use Rattle.deeds.specs.Sound.{act_of}
 use Rattle.deeds.proofs.public_laws.Sounding.{put_gives}
-use Rattle.service_lane.specs.Asked.{IsLiveHit}
+use Rattle.mover.specs.declared.answer_kind.AnswerKind.{AnswerKind}
+use Rattle.service_lane.specs.Asked.{IsLiveHit, TellsExpiry}
 use Rattle.deed_book.specs.Registers.{Registered, Catches, EntersIn}
 use Rattle.service_cache.specs.Seated.{IsSeated, put_of}
-use Rattle.service_cache.proofs.Latest.{live_hit_by, same_part, read_keeps, others_keep, removed_has}
+use Rattle.service_cache.proofs.Latest.{live_hit_by, expiry_by, same_part, read_keeps, others_keep, removed_has}
 
 -- a key is another or the same
 keys_tell : (a b : List ℕ) → (a ≡ b) ⊎ (a ≢ b)
@@ -95,3 +96,9 @@ module _ (lane_of : List ℕ → ℕ) where
     seated_live honest seat_old seat_new new key moment answer looks ours live =
         let has = seated_look seat_old seat_new new looks key (ours ∙ sym looks.number) in
         subst (λ (l : List Deed). IsLiveHit honest l key moment answer) (sym looks.both) (live_hit_by honest deeds new.deeds key moment answer has live)
+
+    -- and expires when it says
+    pub seated_expiry : (honest : Type 0) (seat_old seat_new : List Deed) (new : Registered) (key value : List ℕ) (seen : AnswerKind) → Catches lane_of old seat_old new seat_new → lane_of key ≡ old.number → TellsExpiry honest deeds key value seen → TellsExpiry honest seat_new key value seen
+    seated_expiry honest seat_old seat_new new key value seen looks ours told =
+        let has = seated_look seat_old seat_new new looks key (ours ∙ sym looks.number) in
+        subst (λ (l : List Deed). TellsExpiry honest l key value seen) (sym looks.both) (expiry_by honest deeds new.deeds key value seen has told)

@@ -4,7 +4,9 @@ use mathlib.Core.List.{IsPrefix}
 use Rattle.record_pages.specs.declared.answer.Answer.{Answer}
 use Rattle.record_pages.specs.declared.answer.Answer.TheVariants as answers
 use Rattle.certificate_checker.specs.Deeds.{Deed}
-use Rattle.service_lane.specs.Asked.{IsLiveHit}
+use Rattle.mover.specs.declared.answer_kind.AnswerKind.{AnswerKind}
+use Rattle.mover.specs.declared.answer_kind.AnswerKind.TheVariants as kinds
+use Rattle.service_lane.specs.Asked.{IsLiveHit, TellsExpiry}
 use Rattle.service_lane.specs.declared.filled.Filled.{Filled}
 use Rattle.service_lane.specs.declared.filled.Filled.TheVariants.{Stored, Stale}
 use Rattle.service_cache.specs.declared.looked_up.LookedUp.{LookedUp}
@@ -17,14 +19,24 @@ use Rattle.service_cache.specs.declared.seat_fault.SeatPutFault.TheVariants as r
 abbrev pub IsHit : (ℕ → Bool) → (List ℕ → ℕ) → List Deed → List ℕ → ℕ → Answer → Type 0
 IsHit said lane_of list key moment answer = IsLiveHit (IsTrue (said (lane_of key))) list key moment answer
 
+-- the expiry that is told with a hit is that of the key's latest put in the list: in memory whatever the devices do, on flash if the
+-- device of the key's lane is said to be honest
+abbrev pub HasExpiry : (ℕ → Bool) → (List ℕ → ℕ) → List Deed → List ℕ → List ℕ → AnswerKind → Type 0
+HasExpiry said lane_of list key value seen = TellsExpiry (IsTrue (said (lane_of key))) list key value seen
+
 -- what a look-up gave that leases a key at a miss, if this is in the buffer
 abbrev pub looked_up : LookedUp → List ℕ → Answer
-looked_up (Hit tier) value = answers.Hit value tier
+looked_up (Hit tier expires) value = answers.Hit value tier
 looked_up (Miss cause lease) value = answers.Miss cause
+
+-- what it gave, as a get that leases nothing says it
+abbrev pub kind_of : LookedUp → AnswerKind
+kind_of (Hit tier expires) = kinds.Hit tier expires
+kind_of (Miss cause lease) = kinds.Miss cause
 
 -- a look-up that found no value
 abbrev pub HasMissed : LookedUp → Type 0
-HasMissed (Hit tier) = ⊥
+HasMissed (Hit tier expires) = ⊥
 HasMissed (Miss cause lease) = Unit {0}
 
 -- a write comes after all that the seat had seen, and is the last that it has seen now

@@ -53,7 +53,7 @@ new_lane layout lease_slots seed number device = record {
 
 -- what comes after an answer to a look-up: at a miss a lease of the key's slot, which is counted; at a hit nothing
 abbrev pub LeasesAfter : {D : Type 0} → LookedUp → List ℕ → Serving D → Serving D → Type 0
-LeasesAfter (Hit tier) key between new = new ≡ between
+LeasesAfter (Hit tier expires) key between new = new ≡ between
 LeasesAfter (Miss cause lease) key between new =
     (new ≡ record between { counts = counts_lease between.counts }) × (lease.writes ≡ writes_for between.slots key)
 

@@ -17,7 +17,7 @@ ghost use Rattle.service_lane.specs.declared.filled.Filled.{Filled};
 ghost use Rattle.service_cache.specs.Refusals.{RefusesGet, RefusesPut, RefusesRemoval};
 ghost use Rattle.service_cache.specs.Seated.{put_of, PutLeaves, RemovalLeaves, FillRefusalLeaves};
 ghost use Rattle.service_cache.specs.declared.seat_fault.SeatPutFault.{SeatPutFault};
-ghost use Rattle.service_cache.specs.Calls.{HasMissed, IsHit, looked_up, AddsLast, FillAdds, RefusedPutAdds};
+ghost use Rattle.service_cache.specs.Calls.{HasExpiry, HasMissed, IsHit, kind_of, looked_up, AddsLast, FillAdds, RefusedPutAdds};
 ghost use Rattle.service_cache.specs.Held.{honest_in, failures_in, held_in, LooksUp, FillsOrNot};
 
 use crate::lane::SeatedLane;
@@ -96,6 +96,8 @@ impl<D: PageDevice<PAGE>, const PAGE: usize, L: KeyLanes, J: BookName> Guarded<D
         requires { L.lane_of key.now ≡ self.old.lane.register.number }
         ensures live { IfOk result (λ seen. IsHit L.is_honest L.lane_of seat.new key.now moment
             (answer_of seen found.new)) }
+        ensures expires { IfOk result (λ seen. HasExpiry L.is_honest L.lane_of seat.new key.now
+            found.new seen) }
         ensures seen { IsPrefix seat.old seat.new }
         ensures untouched { IfOk result (λ seen. IsMiss seen → found.new ≡ found.old) }
         ensures cause { IfErr result (RefusesGet key.now) }
@@ -121,6 +123,8 @@ impl<D: PageDevice<PAGE>, const PAGE: usize, L: KeyLanes, J: BookName> Guarded<D
         requires { L.lane_of key.now ≡ self.old.lane.register.number }
         ensures live { IfOk result (λ looked. IsHit L.is_honest L.lane_of seat.new key.now moment
             (looked_up looked found.new)) }
+        ensures expires { IfOk result (λ looked. HasExpiry L.is_honest L.lane_of seat.new key.now
+            found.new (kind_of looked)) }
         ensures seen { IsPrefix seat.old seat.new }
         ensures untouched { IfOk result (λ looked. HasMissed looked → found.new ≡ found.old) }
         ensures cause { IfErr result (RefusesGet key.now) }
@@ -133,7 +137,7 @@ impl<D: PageDevice<PAGE>, const PAGE: usize, L: KeyLanes, J: BookName> Guarded<D
         ensures words { self.new.words ≡ self.old.words }
     {
         match self.get(seat, key, moment, found)? {
-            AnswerKind::Hit(tier) => Ok(LookedUp::Hit(tier)),
+            AnswerKind::Hit { tier, expires } => Ok(LookedUp::Hit { tier, expires }),
             AnswerKind::Miss(cause) => Ok(LookedUp::Miss(cause, self.lane.lease(key))),
         }
     }

@@ -95,7 +95,7 @@ impl Counter {
         ensures { (value : List ℕ) → result ≡ counter_of_answer (answer_of seen value) }
     {
         match seen {
-            AnswerKind::Hit(tier) => Counter::of_hit(tier),
+            AnswerKind::Hit { tier, .. } => Counter::of_hit(tier),
             AnswerKind::Miss(cause) => Counter::of_miss(cause),
         }
     }

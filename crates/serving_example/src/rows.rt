@@ -36,7 +36,7 @@ pub fn look_up<L: KeyLanes, J: BookName, R: Wait>(
 ) -> u64 {
     let mut found = ValueBuffer::empty();
     match cache.get_or_lease(rt, seat, &key_of(row), 0, &mut found) {
-        Ok(LookedUp::Hit(_)) => version_of(found.bytes()),
+        Ok(LookedUp::Hit { .. }) => version_of(found.bytes()),
         Ok(LookedUp::Miss(_, lease)) => {
             let version = database.read(rt, row);
             fill(rt, alloc, cache, seat, lease, row, version);

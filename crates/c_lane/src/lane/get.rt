@@ -1,9 +1,8 @@
 // Gets of a lane.
 ghost use Rattle.std.specs.Prelude.{◌≡◌, ◌≤◌, length};
 ghost use Rattle.record_pages.specs.Bounded.{IsKey};
-ghost use Rattle.mover.specs.Get.{answer_of};
 ghost use Rattle.c_lane.specs.Lane.{laws_of};
-ghost use Rattle.c_lane.specs.Getting.{Answers, AnswersOrLeases, RefusesGet, TellsAnswer};
+ghost use Rattle.c_lane.specs.Getting.{Answers, AnswersOrLeases, LeasesKey, RefusesGet, TellsAnswer};
 
 use super::CLane;
 use crate::copying::copy_front;
@@ -11,12 +10,12 @@ use crate::hit::Hit;
 use crate::status::Status;
 use mover::AnswerKind;
 use page_device::PageDevice;
-use record_pages::ValueBuffer;
+use record_pages::{Key, ValueBuffer};
 
 impl<D: PageDevice<4096>> CLane<D> {
     /// Looks a key up. At `Done` its value stands at the front of the buffer, the rest of which is as it was; at any other status
     /// the whole buffer is. A miss is `Absent`, `Expired`, `Unreadable` or `Damaged`; `ShortBuffer` is a hit whose value is longer
-    /// than the buffer. The hit is given at `Done` and `ShortBuffer`, and is all zeros otherwise. `WrongKey` changes
+    /// than the buffer. The hit is given at `Done` and `ShortBuffer`, with when it expires, and is all zeros otherwise. `WrongKey` changes
     /// nothing. No memory is taken.
     ///
     /// The moment is the caller's, in the unit in which puts say when they expire.
@@ -58,15 +57,30 @@ impl<D: PageDevice<4096>> CLane<D> {
         }
         status
     }
+
+    /// Leases a key, whether it is there or not: in the same hold as a get that hit it, for a fill in place of what was hit.
+    /// `Done`, and `writes` becomes the number of the lease, which ends as that of `get_or_lease` does; or `WrongKey`, which
+    /// changes nothing. No memory is taken.
+    pub fn lease(&mut self, key: &[u8], writes: &mut u64) -> Status
+        ensures leased { IsKey key.now → LeasesKey key.now self.old result self.new writes.new }
+        ensures wrong_key { (IsKey key.now → ⊥) →
+            (result ≡ Status.WrongKey) × (self.new ≡ self.old) × (writes.new ≡ writes.old) }
+    {
+        if key.is_empty() || key.len() > Key::MAX_LEN {
+            return Status::WrongKey;
+        }
+        *writes = self.lane.lease(key).writes;
+        Status::Done
+    }
 }
 
 // Tells what was seen, the value of a hit being in `found`.
 fn told(seen: AnswerKind, found: &ValueBuffer, into: &mut [u8], hit: &mut Hit) -> Status
-    ensures { TellsAnswer (answer_of seen found.now) into.old result into.new hit.new }
+    ensures { TellsAnswer seen found.now into.old result into.new hit.new }
 {
     match seen {
-        AnswerKind::Hit(tier) => {
-            *hit = Hit::of(found.bytes(), tier);
+        AnswerKind::Hit { tier, expires } => {
+            *hit = Hit::of(found.bytes(), tier, expires);
             copy_front(found.bytes(), into)
         }
         AnswerKind::Miss(cause) => {

@@ -2,7 +2,7 @@
 ghost use Rattle.std.specs.Prelude.{◌≡◌, ◌++◌, ◌∷◌, [], IfOk, IsTrue, Ok};
 ghost use Rattle.mover.specs.Calls.{StoreGets};
 ghost use Rattle.mover.specs.Get.{answer_of};
-ghost use Rattle.deeds.specs.Asked.{IsLiveHit, IsMiss};
+ghost use Rattle.deeds.specs.Asked.{IsLiveHit, IsMiss, TellsExpiry};
 ghost use Rattle.deeds.specs.Sound.{act_of};
 
 use super::DeedStore;
@@ -14,8 +14,8 @@ use record_pages::{Answer, Key, ValueBuffer};
 use std::alloc::AllocError;
 
 impl<D: PageDevice<PAGE>, const PAGE: usize> DeedStore<D, PAGE> {
-    /// Looks the key of these bytes up, and writes the value of a hit into the buffer: at a miss that stays as it was. The
-    /// answer is a deed.
+    /// Looks the key of these bytes up, writes the value of a hit into the buffer, and tells when it expires: at a miss the
+    /// buffer stays as it was. The answer is a deed.
     pub fn get_into(&mut self, key: &[u8], moment: u64, found: &mut ValueBuffer) -> AnswerKind
         ensures gets { StoreGets PAGE D.honest D.failures D.held key.now moment self.old.store
             (Ok (answer_of result found.new)) self.new.store }
@@ -23,6 +23,8 @@ impl<D: PageDevice<PAGE>, const PAGE: usize> DeedStore<D, PAGE> {
             ++ record { key = key.now; act = act_of moment (answer_of result found.new) } ∷ [] }
         ensures live { IsLiveHit (IsTrue (D.honest self.old.store.device)) self.old.deeds key.now
             moment (answer_of result found.new) }
+        ensures expires { TellsExpiry (IsTrue (D.honest self.old.store.device)) self.old.deeds
+            key.now found.new result }
         ensures untouched { IsMiss result → found.new ≡ found.old }
     {
         get_shows();

@@ -21,8 +21,8 @@ use record_pages::{ValueBuffer, is_live};
 use set_hash::Placed;
 
 impl<const PAGE: usize> KLog<PAGE> {
-    /// The entry of the newest live record of a key, if that has not expired at the moment: its value is then in the
-    /// buffer. All other answers leave the buffer as it was. A record that lies in memory is found without a call of
+    /// The entry of the newest live record of a key, and when that expires, if it is live at the moment: its value is then in
+    /// the buffer. All other answers leave the buffer as it was. A record that lies in memory is found without a call of
     /// the device. No memory is taken.
     pub fn locate<D: PageDevice<PAGE>>(
         &self,
@@ -45,7 +45,7 @@ impl<const PAGE: usize> KLog<PAGE> {
             };
             match self.ask(device, &entry, key, moment, found) {
                 RecordAnswer::Other => {}
-                RecordAnswer::Hit => return LocatedInLog::Hit(entry),
+                RecordAnswer::Hit(expires) => return LocatedInLog::Hit { entry, expires },
                 RecordAnswer::Expired => return LocatedInLog::Expired,
                 RecordAnswer::Fault => return LocatedInLog::Fault,
                 RecordAnswer::Damaged => return LocatedInLog::Damaged,
@@ -116,7 +116,7 @@ impl<const PAGE: usize> KLog<PAGE> {
                     return RecordAnswer::Expired;
                 }
                 found.set(record.value);
-                RecordAnswer::Hit
+                RecordAnswer::Hit(record.expires)
             }
         }
     }

@@ -38,7 +38,7 @@ impl<const PAGE: usize> KLog<PAGE> {
             LocatedInLog::Expired => Ok(Looked::Expired),
             LocatedInLog::Fault => Ok(Looked::Fault),
             LocatedInLog::Damaged => Ok(Looked::Damaged),
-            LocatedInLog::Hit(entry) => {
+            LocatedInLog::Hit { entry, expires: _ } => {
                 let Ok(value) = Value::new(alloc, found.bytes()) else {
                     return Err(AllocError);
                 };

@@ -40,6 +40,7 @@ use Rattle.klog.specs.Shown.{place_in, newest_with}
 use Rattle.kset.specs.Notes.{Notes}
 use Rattle.kset.specs.Sets.{hit_in, notes_of, has_place}
 use Rattle.kset.specs.After.{after_strike, without_hash, is_forgetting}
+use Rattle.mover.specs.Timed.{log_timed, memory_timed, first_timed}
 use Rattle.mover.specs.Lane.{LaneState}
 use Rattle.mover.specs.Strike.{struck, removed}
 use Rattle.mover.specs.Visible.{pair_of, IsOnFlash, IsVisible, IsHeldInFlight, IsShown, IsLogPlaced, ShowsFrom, ShowsLive, TellsVisible}
@@ -331,27 +332,48 @@ shown_live key moment lane v visible value is =
     let live = is_live_at moment v value is in
     record { expires = v.expires; visible = subst (λ (w : TimedValue). IsVisible lane (record { key = key; value = w })) live.0 visible; live = live.1 }
 
-answer_visible : (key : List ℕ) (moment : ℕ) (lane : LaneState) → TellsVisible key moment lane (get_step key moment lane).reply
-answer_visible key moment lane = by_memory (pair_in key lane.memory.pairs) refl
+-- what a lane has of a key is a visible pair of it
+pub timed_visible : (key : List ℕ) (lane : LaneState) (v : TimedValue) → first_timed key lane ≡ Some v → IsVisible lane (record { key = key; value = v })
+timed_visible key lane v = by_memory (pair_in key lane.memory.pairs) refl
   where
-    its : (set : ℕ) → (place_in lane.log.shape key).set ≡ set → (o : Option (ℕ × Rec)) → first_visible (lane.visible set) key ≡ o → TellsVisible key moment lane (set_step set moment lane o).reply
-    its set at None is = tt
-    its set at (Some x) is = found_reply (TellsVisible key moment lane) (value_at moment x.1.value) Set lane (record lane { sets = hit_in lane.sets set x.0 }) tt (shown_live key moment lane x.1.value
-        (inr (inr (subst (λ n. Contains (map (λ (y : ℕ × Rec). pair_of y.1) (lane.visible n)) (record { key = key; value = x.1.value })) (sym at)
-        (mapped (λ (y : ℕ × Rec). pair_of y.1) (lane.visible set) x (record { key = key; value = x.1.value }) (found_in (λ (y : ℕ × Rec). has_key key y.1) (lane.visible set) x is)
-        (λ i. record { key = same_text x.1.key key (sym (found_passes (λ (y : ℕ × Rec). has_key key y.1) (lane.visible set) x is)) i; value = x.1.value }))))))
+    set : ℕ
+    set = (place_in lane.log.shape key).set
 
-    by_log : (o : Option (Entry × Rec)) → newest_with lane.live key ≡ o → TellsVisible key moment lane (log_step key moment lane o).reply
-    by_log None is = its (place_in lane.log.shape key).set refl (first_visible (lane.visible (place_in lane.log.shape key).set) key) refl
-    by_log (Some x) is = found_reply (TellsVisible key moment lane) (value_at moment x.1.value) Log lane (lane_lowered lane x.0) tt (shown_live key moment lane x.1.value
-        (inr (inl (mapped (λ (y : Entry × Rec). pair_of y.1) lane.live x (record { key = key; value = x.1.value }) (found_in (λ (y : Entry × Rec). has_key key y.1) lane.live x is)
-        (λ i. record { key = same_text x.1.key key (sym (found_passes (λ (y : Entry × Rec). has_key key y.1) lane.live x is)) i; value = x.1.value })))))
+    same : (w : TimedValue) → Some w ≡ Some v → w ≡ v
+    same w is = cc
 
-    by_memory : (o : Option Pair) → pair_in key lane.memory.pairs ≡ o → TellsVisible key moment lane (memory_step key moment lane (option_map (λ (p : Pair). p.value) o)).reply
-    by_memory None is = by_log (newest_with lane.live key) refl
-    by_memory (Some p) is = found_reply (TellsVisible key moment lane) (value_at moment p.value) Memory lane (record lane { memory = after_get key lane.memory }) tt (shown_live key moment lane p.value
-        (inl (subst (Contains lane.memory.pairs) (λ i. record { key = sym ((bytes_decides key p.key).0 (found_passes (λ (y : Pair). bytes_eq key y.key) lane.memory.pairs p is)) i; value = p.value })
-        (found_in (λ (y : Pair). bytes_eq key y.key) lane.memory.pairs p is))))
+    by_set : (o : Option (ℕ × Rec)) → first_visible (lane.visible set) key ≡ o → option_map (λ x. x.1.value) o ≡ Some v → IsVisible lane (record { key = key; value = v })
+    by_set None is has = absurd cc
+    by_set (Some x) is has = inr (inr (mapped (λ (y : ℕ × Rec). pair_of y.1) (lane.visible set) x (record { key = key; value = v }) (found_in (λ (y : ℕ × Rec). has_key key y.1) (lane.visible set) x is)
+        (λ i. record { key = same_text x.1.key key (sym (found_passes (λ (y : ℕ × Rec). has_key key y.1) (lane.visible set) x is)) i; value = same x.1.value has i })))
+
+    by_log : (o : Option (Entry × Rec)) → newest_with lane.live key ≡ o → log_timed key lane o ≡ Some v → IsVisible lane (record { key = key; value = v })
+    by_log None is has = by_set (first_visible (lane.visible set) key) refl has
+    by_log (Some x) is has = inr (inl (mapped (λ (y : Entry × Rec). pair_of y.1) lane.live x (record { key = key; value = v }) (found_in (λ (y : Entry × Rec). has_key key y.1) lane.live x is)
+        (λ i. record { key = same_text x.1.key key (sym (found_passes (λ (y : Entry × Rec). has_key key y.1) lane.live x is)) i; value = same x.1.value has i })))
+
+    by_memory : (o : Option Pair) → pair_in key lane.memory.pairs ≡ o → memory_timed key lane (option_map (λ (p : Pair). p.value) o) ≡ Some v → IsVisible lane (record { key = key; value = v })
+    by_memory None is has = by_log (newest_with lane.live key) refl has
+    by_memory (Some p) is has = inl (subst (Contains lane.memory.pairs) (λ i. record { key = sym ((bytes_decides key p.key).0 (found_passes (λ (y : Pair). bytes_eq key y.key) lane.memory.pairs p is)) i; value = same p.value has i })
+        (found_in (λ (y : Pair). bytes_eq key y.key) lane.memory.pairs p is))
+
+answer_visible : (key : List ℕ) (moment : ℕ) (lane : LaneState) → TellsVisible key moment lane (get_step key moment lane).reply
+answer_visible key moment lane = by_memory (value_in key lane.memory.pairs) refl
+  where
+    live : (v : TimedValue) → first_timed key lane ≡ Some v → (value : List ℕ) → value_at moment v ≡ Some value → ShowsLive key moment lane value
+    live v has = shown_live key moment lane v (timed_visible key lane v has)
+
+    by_set : (n : ℕ) (o : Option (ℕ × Rec)) → first_timed key lane ≡ option_map (λ x. x.1.value) o → TellsVisible key moment lane (set_step n moment lane o).reply
+    by_set n None has = tt
+    by_set n (Some x) has = found_reply (TellsVisible key moment lane) (value_at moment x.1.value) Set lane (record lane { sets = hit_in lane.sets n x.0 }) tt (live x.1.value has)
+
+    by_log : (o : Option (Entry × Rec)) → first_timed key lane ≡ log_timed key lane o → TellsVisible key moment lane (log_step key moment lane o).reply
+    by_log None has = by_set (place_in lane.log.shape key).set (first_visible (lane.visible (place_in lane.log.shape key).set) key) has
+    by_log (Some x) has = found_reply (TellsVisible key moment lane) (value_at moment x.1.value) Log lane (lane_lowered lane x.0) tt (live x.1.value has)
+
+    by_memory : (o : Option TimedValue) → first_timed key lane ≡ memory_timed key lane o → TellsVisible key moment lane (memory_step key moment lane o).reply
+    by_memory None has = by_log (newest_with lane.live key) has
+    by_memory (Some v) has = found_reply (TellsVisible key moment lane) (value_at moment v) Memory lane (record lane { memory = after_get key lane.memory }) tt (live v has)
 
 -- so does what a get answers
 pub get_tells : (key : List ℕ) (moment : ℕ) (old new : LaneState) (answer : Answer) → GetGives key moment old answer new → TellsVisible key moment old answer

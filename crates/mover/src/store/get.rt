@@ -6,7 +6,8 @@ ghost use Rattle.record_pages.specs.Expiry.{value_at};
 ghost use Rattle.memory_cache.specs.MemoryList.{value_in};
 ghost use Rattle.mover.specs.Calls.{StoreGets};
 ghost use Rattle.mover.specs.Get.{answer_of, is_hit};
-ghost use Rattle.mover.specs.Recall.{value_of};
+ghost use Rattle.mover.specs.Recall.{value_of, IsRecalled};
+ghost use Rattle.mover.specs.Timed.{expiry_of, expiry_in_memory, expiry_at, expiry_at_memory, TellsExpiry};
 ghost use Rattle.mover.specs.Touch.{answer_at, has_value, touched, CanTouch};
 
 use super::Store;
@@ -27,9 +28,10 @@ impl<D: PageDevice<PAGE>, const PAGE: usize> Store<D, PAGE> {
     {
         let key = key.bytes();
         match self.look_in_memory(key, moment) {
-            MemoryAnswer::Live(value) => {
-                let value = value.try_clone()?;
-                self.touch(key, &Located::Memory);
+            MemoryAnswer::Live(timed) => {
+                let expires = timed.expires;
+                let value = timed.value.try_clone()?;
+                self.touch(key, &Located::Memory { expires });
                 Ok(Answer::Hit(value, Tier::Memory))
             }
             MemoryAnswer::Expired => Ok(Answer::Miss(MissCause::Expired)),
@@ -41,12 +43,15 @@ impl<D: PageDevice<PAGE>, const PAGE: usize> Store<D, PAGE> {
     }
 
     /// The value that the key with these bytes has at a moment, as `get` has it, into room of the caller's: a hit
-    /// leaves the value in the buffer, and a miss leaves the buffer as it was. Bytes that are no key are absent. No
+    /// leaves the value in the buffer and tells when it expires, and a miss leaves the buffer as it was. Bytes that are no key are absent. No
     /// memory is taken.
     pub fn get_into(&mut self, key: &[u8], moment: u64, found: &mut ValueBuffer) -> AnswerKind
         ensures gets { StoreGets PAGE D.honest D.failures D.held key.now moment self.old
             (Ok (answer_of result found.new)) self.new }
         ensures stays { OnFalse (is_hit result) (found.new ≡ found.old) }
+        // When a value expires.
+        ensures expires { TellsExpiry D.honest D.held key.now self.old (expiry_in_memory result)
+            (expiry_of result) found.new }
     {
         let at = self.locate(key, moment, found);
         self.touch(key, &at);
@@ -55,11 +60,12 @@ impl<D: PageDevice<PAGE>, const PAGE: usize> Store<D, PAGE> {
 
     // What memory has of a key.
     fn look_in_memory(&self, key: &[u8], moment: u64) -> MemoryAnswer<'_>
-        ensures { value_of result ≡ option_map (value_at moment) (value_in key.now self.now.memory.pairs) }
+        ensures value { value_of result ≡ option_map (value_at moment) (value_in key.now self.now.memory.pairs) }
+        ensures whole { IsRecalled (value_in key.now self.now.memory.pairs) result }
     {
         match self.memory.peek_bytes(key) {
             None => MemoryAnswer::Absent,
-            Some(timed) if timed.is_live(moment) => MemoryAnswer::Live(&timed.value),
+            Some(timed) if timed.is_live(moment) => MemoryAnswer::Live(timed),
             Some(_) => MemoryAnswer::Expired,
         }
     }
@@ -71,11 +77,15 @@ impl<D: PageDevice<PAGE>, const PAGE: usize> Store<D, PAGE> {
         ensures unchanged { self.new ≡ record self.old { device = self.new.device } }
         ensures can { CanTouch result self.new }
         ensures stays { OnFalse (has_value result) (found.new ≡ found.old) }
+        ensures expires { TellsExpiry D.honest D.held key.now self.old (expiry_at_memory result)
+            (expiry_at result) found.new }
     {
         match self.look_in_memory(key, moment) {
-            MemoryAnswer::Live(value) => {
-                found.set(value.bytes());
-                Located::Memory
+            MemoryAnswer::Live(timed) => {
+                found.set(timed.value.bytes());
+                Located::Memory {
+                    expires: timed.expires,
+                }
             }
             MemoryAnswer::Expired => Located::Miss(MissCause::Expired),
             MemoryAnswer::Absent => {
@@ -92,9 +102,9 @@ impl<D: PageDevice<PAGE>, const PAGE: usize> Store<D, PAGE> {
         ensures { self.new ≡ touched key.now at.now self.old }
     {
         match at {
-            Located::Memory => self.memory.raise(key),
-            Located::Log(entry) => self.log.touch(entry),
-            Located::Set { set, slot } => self.sets.touch(*set, *slot),
+            Located::Memory { .. } => self.memory.raise(key),
+            Located::Log { entry, .. } => self.log.touch(entry),
+            Located::Set { set, slot, .. } => self.sets.touch(*set, *slot),
             Located::Miss(_) => {}
         }
     }

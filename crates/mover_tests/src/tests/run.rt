@@ -186,11 +186,19 @@ fn gets_into<D: PageDevice<PAGE>, const PAGE: usize>(
     is_seen(seen, wanted) && found.bytes() == held_then(wanted)
 }
 
+// Whether this is a hit in the tier, with the expiry that each value was put with.
+fn is_hit_in(seen: AnswerKind, tier: Tier) -> bool {
+    seen == AnswerKind::Hit {
+        tier,
+        expires: EXPIRES,
+    }
+}
+
 pub fn is_seen(seen: AnswerKind, wanted: &Found) -> bool {
     match wanted {
-        Found::Memory(_) => seen == AnswerKind::Hit(Tier::Memory),
-        Found::Log(_) => seen == AnswerKind::Hit(Tier::Log),
-        Found::Set(_) => seen == AnswerKind::Hit(Tier::Set),
+        Found::Memory(_) => is_hit_in(seen, Tier::Memory),
+        Found::Log(_) => is_hit_in(seen, Tier::Log),
+        Found::Set(_) => is_hit_in(seen, Tier::Set),
         Found::Absent => seen == AnswerKind::Miss(MissCause::Absent),
         Found::Fault => seen == AnswerKind::Miss(MissCause::Fault),
         Found::Damaged => seen == AnswerKind::Miss(MissCause::Damaged),

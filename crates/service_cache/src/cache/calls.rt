@@ -10,7 +10,7 @@ ghost use Rattle.trace_file.specs.declared.act.Act.{Act};
 ghost use Rattle.service_cache.specs.Refusals.{RefusesGet, RefusesPut, RefusesRemoval};
 ghost use Rattle.service_cache.specs.Seated.{put_of};
 ghost use Rattle.service_cache.specs.declared.seat_fault.SeatPutFault.{SeatPutFault};
-ghost use Rattle.service_cache.specs.Calls.{HasMissed, IsHit, looked_up, AddsLast, FillAdds, RefusedPutAdds};
+ghost use Rattle.service_cache.specs.Calls.{HasExpiry, HasMissed, IsHit, kind_of, looked_up, AddsLast, FillAdds, RefusedPutAdds};
 
 use super::ServiceCache;
 use crate::looked_up::LookedUp;
@@ -31,7 +31,7 @@ impl<
     J: BookName,
 > ServiceCache<D, P, PAGE, L, J> {
     /// Looks a key up, by its bytes, in one hold of its lane; and the seat sees the list as it is. The value of a hit is in the
-    /// buffer then; at a miss the buffer is as it was. No memory is taken.
+    /// buffer then, and it is told when it expires; at a miss the buffer is as it was. No memory is taken.
     ///
     /// A hit in memory is the key's latest value not since removed in the list that the seat has seen then, live at the
     /// moment; and so is one on flash, if the device of the key's lane gives back what was written. The moment is the caller's, in the unit in
@@ -50,6 +50,8 @@ impl<
     ) -> Result<AnswerKind, SeatFault>
         ensures live { IfOk result (λ seen. IsHit L.is_honest L.lane_of seat.new key.now moment
             (answer_of seen found.new)) }
+        ensures expires { IfOk result (λ seen. HasExpiry L.is_honest L.lane_of seat.new key.now
+            found.new seen) }
         ensures seen { IsPrefix seat.old seat.new }
         ensures untouched { IfOk result (λ seen. IsMiss seen → found.new ≡ found.old) }
 
@@ -79,6 +81,8 @@ impl<
     ) -> Result<LookedUp, SeatFault>
         ensures live { IfOk result (λ seen. IsHit L.is_honest L.lane_of seat.new key.now moment
             (looked_up seen found.new)) }
+        ensures expires { IfOk result (λ looked. HasExpiry L.is_honest L.lane_of seat.new key.now
+            found.new (kind_of looked)) }
         ensures seen { IsPrefix seat.old seat.new }
         ensures untouched { IfOk result (λ looked. HasMissed looked → found.new ≡ found.old) }
         ensures cause { IfErr result (RefusesGet key.now) }

@@ -3,7 +3,7 @@ ghost use Rattle.std.specs.Prelude.{◌≡◌, IfOk, IfErr, OnOk, OnErr, IsTrue}
 ghost use mathlib.Core.List.{IsPrefix};
 ghost use Rattle.record_pages.specs.Bounded.{IsKey};
 ghost use Rattle.mover.specs.Get.{answer_of};
-ghost use Rattle.service_lane.specs.Asked.{IsLiveHit, IsMiss};
+ghost use Rattle.service_lane.specs.Asked.{IsLiveHit, IsMiss, TellsExpiry};
 ghost use Rattle.service_lane.specs.Counting.{counts_lease};
 ghost use Rattle.service_lane.specs.Leases.{writes_for};
 ghost use Rattle.service_lane.specs.Serving.{Gets};
@@ -32,6 +32,8 @@ impl<D: PageDevice<PAGE>, const PAGE: usize, L: KeyLanes, J: BookName> SeatedLan
         requires { L.lane_of key.now ≡ self.old.register.number }
         ensures live { IfOk result (λ seen. IsLiveHit (IsTrue (D.honest self.old.serving.store.device)) seat.new
             key.now moment (answer_of seen found.new)) }
+        ensures expires { IfOk result (λ seen. TellsExpiry (IsTrue (D.honest self.old.serving.store.device))
+            seat.new key.now found.new seen) }
         ensures seen { IsPrefix seat.old seat.new }
         ensures gets { IfOk result (λ seen. Gets PAGE D.honest D.failures D.held key.now moment
             (answer_of seen found.new) self.old.serving self.new.serving) }

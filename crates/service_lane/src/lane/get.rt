@@ -4,7 +4,7 @@ ghost use Rattle.record_pages.specs.declared.key.KeyFault.{KeyFault};
 ghost use Rattle.mover.specs.Calls.{StoreGets};
 ghost use Rattle.mover.specs.Get.{answer_of};
 ghost use Rattle.deeds.specs.Sound.{act_of};
-ghost use Rattle.service_lane.specs.Asked.{IsLiveHit, IsMiss};
+ghost use Rattle.service_lane.specs.Asked.{IsLiveHit, IsMiss, TellsExpiry};
 ghost use Rattle.service_lane.specs.Counting.{counts_lease};
 ghost use Rattle.service_lane.specs.Leases.{writes_for};
 ghost use Rattle.service_lane.specs.Serving.{Gets};
@@ -18,8 +18,8 @@ use page_device::PageDevice;
 use record_pages::{KeyFault, ValueBuffer};
 
 impl<D: PageDevice<PAGE>, const PAGE: usize> ServiceLane<D, PAGE> {
-    /// Looks a key up, by its bytes. The value of a hit is in the buffer then; at a miss the buffer is as it was. No memory is
-    /// taken.
+    /// Looks a key up, by its bytes. The value of a hit is in the buffer then, and it is told when it expires; at a miss the
+    /// buffer is as it was. No memory is taken.
     ///
     /// A hit is the key's latest value not since removed, live at the moment: in memory whatever the device does, on flash if
     /// it gives back what was written. The moment is the caller's, and may go backwards. `KeyEmpty` and `KeyTooLong`, for bytes that
@@ -32,6 +32,8 @@ impl<D: PageDevice<PAGE>, const PAGE: usize> ServiceLane<D, PAGE> {
     ) -> Result<AnswerKind, KeyFault>
         ensures gets { IfOk result (λ seen. Gets PAGE D.honest D.failures D.held key.now moment
             (answer_of seen found.new) self.old self.new) }
+        ensures expires { IfOk result (λ seen. TellsExpiry (IsTrue (D.honest self.old.store.device))
+            self.old.deeds key.now found.new seen) }
         ensures untouched { IfOk result (λ seen. IsMiss seen → found.new ≡ found.old) }
 
         // When it is refused, and what that leaves.

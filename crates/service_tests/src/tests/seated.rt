@@ -97,7 +97,11 @@ fn found_by_both<J: BookName + Send + Sync, R: Threads + Wait + Sync>(
     requires opened { lane.deeds ≡ [] }
 {
     match last_of_both::<J, R>(rt, book, lane, first, second) {
-        Some(last) => last.seen == AnswerKind::Hit(Tier::Memory)
+        Some(last) => last.seen
+            == AnswerKind::Hit {
+                tier: Tier::Memory,
+                expires: NEVER,
+            }
             && last.found.bytes() == b"one".as_slice(),
         None => false,
     }

@@ -19,7 +19,7 @@ pub struct Tally {
     pub absent: u64,
     pub expired: u64,
     pub failed: u64,
-    /// Hits of another value, or of one that had expired; and live values that were told as expired.
+    /// Hits of another value, of one that had expired, or with another expiry; and live values that were told as expired.
     pub wrong: u64,
     /// Refused calls.
     pub refused: u64,
@@ -92,14 +92,24 @@ fn is_of(found: &ValueBuffer, version: Version) -> bool {
     version.number != 0 && found.bytes() == &bytes[..len_of(version.number)]
 }
 
+// A right hit in a tier.
+fn hit_in(tier: Tier) -> Tally {
+    match tier {
+        Tier::Memory => Tally { memory: 1, ..NONE },
+        Tier::Log => Tally { log: 1, ..NONE },
+        Tier::Set => Tally { set: 1, ..NONE },
+    }
+}
+
 // One answer of a get.
 fn told(seen: AnswerKind, found: &ValueBuffer, version: Version, moment: u64) -> Tally {
     let is_live = version.expires == NEVER || moment < version.expires;
     match seen {
-        AnswerKind::Hit(_) if !is_live || !is_of(found, version) => Tally { wrong: 1, ..NONE },
-        AnswerKind::Hit(Tier::Memory) => Tally { memory: 1, ..NONE },
-        AnswerKind::Hit(Tier::Log) => Tally { log: 1, ..NONE },
-        AnswerKind::Hit(Tier::Set) => Tally { set: 1, ..NONE },
+        AnswerKind::Hit { expires, .. }
+            if !is_live || expires != version.expires || !is_of(found, version) => {
+            Tally { wrong: 1, ..NONE }
+        }
+        AnswerKind::Hit { tier, .. } => hit_in(tier),
         AnswerKind::Miss(MissCause::Absent) => Tally { absent: 1, ..NONE },
         AnswerKind::Miss(MissCause::Expired) if is_live => Tally { wrong: 1, ..NONE },
         AnswerKind::Miss(MissCause::Expired) => Tally { expired: 1, ..NONE },
@@ -120,7 +130,7 @@ fn look_up<D: PageDevice<256>, L: KeyLanes, J: BookName, R: Wait>(
         return cache.get(rt, seat, name, moment, found);
     }
     match cache.get_or_lease(rt, seat, name, moment, found)? {
-        LookedUp::Hit(tier) => Ok(AnswerKind::Hit(tier)),
+        LookedUp::Hit { tier, expires } => Ok(AnswerKind::Hit { tier, expires }),
         LookedUp::Miss(cause, _) => Ok(AnswerKind::Miss(cause)),
     }
 }

@@ -14,7 +14,12 @@ fn finds<D: PageDevice<256>, L: KeyLanes, J: BookName, R: Wait>(
     let mut found = ValueBuffer::empty();
     let seen = cache.get(rt, &mut cache.seat(), name, 0, &mut found);
     match bytes {
-        Some(bytes) => seen == Ok(AnswerKind::Hit(Tier::Memory)) && found.bytes() == bytes,
+        Some(bytes) => seen
+            == Ok(AnswerKind::Hit {
+                tier: Tier::Memory,
+                expires: NEVER,
+            })
+            && found.bytes() == bytes,
         None => seen == Ok(AnswerKind::Miss(MissCause::Absent)),
     }
 }

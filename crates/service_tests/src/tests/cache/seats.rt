@@ -154,7 +154,12 @@ fn found_by_both<L: KeyLanes + Send + Sync, J: BookName + Send + Sync, R: Thread
     let cache = Over::<L, J>::open(alloc, &SMALL, 2, 8, devices, Rriparoo, seed, book)?;
     match last_of_both(rt, &cache, first, second) {
         Some(last) => Ok(
-            last.seen == AnswerKind::Hit(Tier::Memory) && last.found.bytes() == b"one".as_slice(),
+            last.seen
+                == AnswerKind::Hit {
+                    tier: Tier::Memory,
+                    expires: NEVER,
+                }
+                && last.found.bytes() == b"one".as_slice(),
         ),
         None => Ok(false),
     }

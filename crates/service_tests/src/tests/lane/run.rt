@@ -162,6 +162,14 @@ fn moved<D: PageDevice<PAGE>, const PAGE: usize>(
     }
 }
 
+// Whether this is a hit in the tier.
+fn is_hit_in(seen: Result<AnswerKind, KeyFault>, wanted: Tier) -> bool {
+    match seen {
+        Ok(AnswerKind::Hit { tier, .. }) => tier == wanted,
+        _ => false,
+    }
+}
+
 fn is_found<D: PageDevice<PAGE>, const PAGE: usize>(
     lane: &mut ServiceLane<D, PAGE>,
     name: &[u8],
@@ -171,10 +179,9 @@ fn is_found<D: PageDevice<PAGE>, const PAGE: usize>(
     let mut found = ValueBuffer::empty();
     let seen = lane.get(name, moment, &mut found);
     match wanted {
-        Found::Memory(bytes) => seen == Ok(AnswerKind::Hit(Tier::Memory))
-            && found.bytes() == *bytes,
-        Found::Log(bytes) => seen == Ok(AnswerKind::Hit(Tier::Log)) && found.bytes() == *bytes,
-        Found::Set(bytes) => seen == Ok(AnswerKind::Hit(Tier::Set)) && found.bytes() == *bytes,
+        Found::Memory(bytes) => is_hit_in(seen, Tier::Memory) && found.bytes() == *bytes,
+        Found::Log(bytes) => is_hit_in(seen, Tier::Log) && found.bytes() == *bytes,
+        Found::Set(bytes) => is_hit_in(seen, Tier::Set) && found.bytes() == *bytes,
         Found::Absent => seen == Ok(AnswerKind::Miss(MissCause::Absent))
             && found.bytes().is_empty(),
         Found::Expired => seen == Ok(AnswerKind::Miss(MissCause::Expired))

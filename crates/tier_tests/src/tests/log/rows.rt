@@ -179,9 +179,9 @@ pub fn touch_what_is_located<D: PageDevice<PAGE>, const PAGE: usize>(
     ensures expired { result ≡ LocatedInLog.Expired → log.new ≡ log.old }
 {
     match log.locate(device, placed, key, moment, found) {
-        LocatedInLog::Hit(entry) => {
+        LocatedInLog::Hit { entry, expires } => {
             log.touch(&entry);
-            LocatedInLog::Hit(entry)
+            LocatedInLog::Hit { entry, expires }
         }
         LocatedInLog::Expired => LocatedInLog::Expired,
         LocatedInLog::Absent => LocatedInLog::Absent,
@@ -190,8 +190,8 @@ pub fn touch_what_is_located<D: PageDevice<PAGE>, const PAGE: usize>(
     }
 }
 
-/// The entry that is located is that of the newest live record with the key, over an honest device, and of the key's set
-/// and tag over any.
+/// The entry that is located is that of the newest live record with the key, and it expires with that, over an honest device;
+/// and it is of the key's set and tag over any.
 pub fn locate_newest<D: PageDevice<PAGE>, const PAGE: usize>(
     log: &KLog<PAGE>,
     device: &mut D,
@@ -199,19 +199,19 @@ pub fn locate_newest<D: PageDevice<PAGE>, const PAGE: usize>(
     key: &[u8],
     moment: u64,
     found: &mut ValueBuffer,
-) -> Option<Entry>
+) -> Option<(Entry, u64)>
     requires page_size { IsPageSize PAGE }
     requires pages { HasRoom (D.page_count device.old) log.now }
     requires place { placed.now ≡ place_in log.now.shape key.now }
     ensures newest { IsTrue (D.honest device.old) → IsSpelledOn PAGE (D.held device.old) log.now →
-        IfSome result (λ e. option_map (λ x. x.0)
+        IfSome result (λ e. option_map (λ x. (x.0, x.1.value.expires))
         (newest_with (live_on (D.held device.old) log.now) key.now) ≡ Some e) }
-    ensures its { IfSome result (λ e. Contains (of_tag placed.now.set placed.now.tag log.now.entries) e) }
+    ensures its { IfSome result (λ e. Contains (of_tag placed.now.set placed.now.tag log.now.entries) e.0) }
 {
-    let LocatedInLog::Hit(entry) = log.locate(device, placed, key, moment, found) else {
+    let LocatedInLog::Hit { entry, expires } = log.locate(device, placed, key, moment, found) else {
         return None;
     };
-    Some(entry)
+    Some((entry, expires))
 }
 
 /// A touch lowers the entry at its place, and leaves all others as they were.

@@ -149,15 +149,16 @@ fn is_located<D: PageDevice<PAGE>, const PAGE: usize>(
     is_at(located, &owner.placed(key), place, prediction) && found.bytes() == held
 }
 
-// Whether an entry of this set and tag is located, with this place and prediction.
+// Whether an entry of this set and tag is located, with this place and prediction, and the expiry of all that is put.
 fn is_at(located: LocatedInLog, placed: &Placed, place: Place, prediction: u8) -> bool {
-    let LocatedInLog::Hit(entry) = located else {
+    let LocatedInLog::Hit { entry, expires } = located else {
         return false;
     };
     entry.set == placed.set
         && entry.tag == placed.tag
         && entry.place == place
         && entry.prediction.get() == prediction
+        && expires == EXPIRES
 }
 
 // What is located of the bytes of a key at a moment, or nothing if the buffer does not stay as it was.
@@ -194,7 +195,7 @@ fn is_touched<D: PageDevice<PAGE>, const PAGE: usize>(
     requires { IsPageSize PAGE }
 {
     let mut found = ValueBuffer::empty();
-    let LocatedInLog::Hit(entry) = owner.locate(key, EXPIRES - 1, &mut found) else {
+    let LocatedInLog::Hit { entry, .. } = owner.locate(key, EXPIRES - 1, &mut found) else {
         return false;
     };
     owner.touch(&entry);

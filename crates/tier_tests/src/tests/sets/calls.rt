@@ -1,5 +1,6 @@
 //! Which calls sets make of their device: a write for each rewriting, a read for each look-up that the filter and the
 //! strikes let through and for each reading of a set that holds something, and no other.
+use super::retried::EXPIRES;
 use super::step::WAS_HELD;
 use super::*;
 use test_devices::{DeviceCall, PlannedDevice};
@@ -13,7 +14,14 @@ const STEPS: [Step; 19] = [
     Step::Read(&[]),
     Step::Rewrite(&ONLY_AX, Rewritten::Written),
     FINDS_A,
-    Step::Locate(b"ax", LocatedInSet::Hit { slot: 0 }, b"1"),
+    Step::Locate(
+        b"ax",
+        LocatedInSet::Hit {
+            slot: 0,
+            expires: EXPIRES,
+        },
+        b"1",
+    ),
     Step::Touch(b"ax", 0),
     Step::Locate(b"bx", LocatedInSet::Absent, WAS_HELD),
     Step::Look(b"bx", WantedLook::Absent),

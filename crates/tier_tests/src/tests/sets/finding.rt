@@ -1,5 +1,5 @@
 //! What is found of what was written.
-use super::retried::{read, rewrite};
+use super::retried::{EXPIRES, read, rewrite};
 use super::*;
 
 const FOUND_UNTIL_STRUCK: [Step; 11] = [
@@ -49,7 +49,14 @@ const SECOND: Listed = Listed {
 
 const THE_FIRST_OF_TWO: [Step; 6] = [
     Step::Rewrite(&TWO_OF_ONE_KEY, Rewritten::Written),
-    Step::Locate(b"cd", LocatedInSet::Hit { slot: 1 }, b"2"),
+    Step::Locate(
+        b"cd",
+        LocatedInSet::Hit {
+            slot: 1,
+            expires: EXPIRES,
+        },
+        b"2",
+    ),
     Step::Look(b"cd", WantedLook::Value(b"2")),
     Step::Read(&[AB, FIRST_HIT, SECOND]),
     // A rewriting clears the hits.

@@ -1,5 +1,6 @@
 //! Keys that are located: a hit leaves its value in the buffer, all other answers leave it as it was, and nothing is noted
 //! until a slot is touched.
+use super::retried::EXPIRES;
 use super::step::WAS_HELD;
 use super::*;
 use kset::LocatedInSet::{Absent, Damaged, Fault, Hit};
@@ -7,9 +8,23 @@ use kset::LocatedInSet::{Absent, Damaged, Fault, Hit};
 // A key may have 255 bytes.
 const TOO_LONG: [u8; 256] = [b'a'; 256];
 
-const LOCATES_A: Step = Step::Locate(b"ax", Hit { slot: 0 }, b"1");
+const LOCATES_A: Step = Step::Locate(
+    b"ax",
+    Hit {
+        slot: 0,
+        expires: EXPIRES,
+    },
+    b"1",
+);
 
-const LOCATES_B: Step = Step::Locate(b"bx", Hit { slot: 1 }, b"2");
+const LOCATES_B: Step = Step::Locate(
+    b"bx",
+    Hit {
+        slot: 1,
+        expires: EXPIRES,
+    },
+    b"2",
+);
 
 // The second call of the device is refused, which is the first that locates.
 const ON_THE_PAGE: [Step; 14] = [

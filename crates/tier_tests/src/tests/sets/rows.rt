@@ -90,7 +90,8 @@ pub fn look_short_of_memory<D: PageDevice<PAGE>, const PAGE: usize>(
     }
 }
 
-/// What is located is the slot of the first visible record with the key, also among slots that were hit before.
+/// What is located is the slot of the first visible record with the key, also among slots that were hit before, and when that
+/// expires.
 pub fn locate_the_first<D: PageDevice<PAGE>, const PAGE: usize>(
     sets: &KSet<PAGE>,
     device: &mut D,
@@ -107,7 +108,8 @@ pub fn locate_the_first<D: PageDevice<PAGE>, const PAGE: usize>(
     requires spelled { AreSpelledOn PAGE (D.held device.old) sets.now }
     ensures { (first : ℕ × Rec) →
         first_visible (visible_in (D.held device.old) sets.now placed.now.set) key.now ≡ Some first →
-        (slot : ℕ) → slot ≢ first.0 → result ≢ LocatedInSet.Hit slot }
+        (slot expires : ℕ) → result ≡ LocatedInSet.Hit slot expires →
+        (slot ≡ first.0) × (expires ≡ first.1.value.expires) }
 {
     sets.locate(device, placed, key, moment, found)
 }

@@ -1,6 +1,5 @@
 -- A get that the lane answered, and what was told of it.
 use Rattle.std.proofs.Common.{refl, subst}
-use Rattle.mover.specs.Get.{answer_of}
 use Rattle.c_lane.specs.Getting.{Answers}
 use Rattle.c_lane.specs.Lane.{LaneState, laws_of}
 use Rattle.c_lane.proofs.lane.CLane.get.Goals as goal
@@ -14,5 +13,5 @@ returns-clause-answered g c is =
     let old : LaneState g.row.D.Denot = record { serving = i.lane; words = i.words } in
     let new : LaneState g.row.D.Denot = record { serving = c.get.new.self; words = i.words } in
     let got : Answers laws a.key.now a.moment a.into.now old c.told.result new c.told.new.into c.told.new.hit =
-    record { answer = answer_of c.in-Ok.seen c.get.new.found; gets = c.in-Ok.ensures.gets; words = refl; tells = c.told.ensures } in
+    record { kind = c.in-Ok.seen; value = c.get.new.found; gets = c.in-Ok.ensures.gets; expires = c.in-Ok.ensures.expires; words = refl; tells = c.told.ensures } in
     subst (λ (s : LaneState g.row.D.Denot). Answers laws a.key.now a.moment a.into.now s c.told.result new c.told.new.into c.told.new.hit) c.self.view_is got

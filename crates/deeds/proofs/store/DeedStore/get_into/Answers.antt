@@ -4,8 +4,8 @@ use Rattle.std.specs.Prelude.{IsTrue}
 use Rattle.record_pages.specs.declared.answer.Answer.{Answer}
 use Rattle.mover.specs.Get.{answer_of}
 use Rattle.trace_file.specs.declared.act.Act.{Act}
-use Rattle.deeds.specs.Asked.{Asked, IsLiveHit}
-use Rattle.deeds.proofs.Serves.{served_asked, served_noted, live_asked, live_then}
+use Rattle.deeds.specs.Asked.{Asked, IsLiveHit, TellsExpiry}
+use Rattle.deeds.proofs.Serves.{served_asked, served_noted, live_asked, live_then, expiry_told}
 use Rattle.deeds.proofs.store.DeedStore.get_into.Goals as goal
 
 pub invariant_of-self : goal.invariant_of-self
@@ -29,3 +29,10 @@ returns-clause-live g c =
     let answer : Answer = answer_of c.get_into-seen.result c.get_into-seen.new.found in
     subst (λ (s : Asked g.row.D.Denot). IsLiveHit (IsTrue (d.honest s.store.device)) s.deeds a.key.now a.moment answer) c.self.view_is
     (live_asked g.row.PAGE d.honest d.failures d.held c.get_shows.ensures old c.self.invariant a.key.now a.moment c.get_into-seen.new.self c.found_is_held.ensures answer c.get_into-seen.ensures.gets)
+
+pub returns-clause-expires : goal.returns-clause-expires
+returns-clause-expires g c =
+    let d = g.D.PageDevice in
+    let old : Asked g.row.D.Denot = record { store = c.self.inside.store; deeds = c.self.inside.trail.deeds } in
+    subst (λ (s : Asked g.row.D.Denot). TellsExpiry (IsTrue (d.honest s.store.device)) s.deeds c.args.key.now c.get_into-seen.new.found c.get_into-seen.result) c.self.view_is
+    (expiry_told d.honest d.held c.found_is_held.ensures old c.self.invariant c.args.key.now c.get_into-seen.new.found c.get_into-seen.result c.get_into-seen.ensures.expires)

@@ -8,3 +8,6 @@ returns-clause-gets g c =
 
 pub returns-clause-stays : goal.returns-clause-stays
 returns-clause-stays g c = rw c.kind.ensures.hit c.locate-at.ensures.stays
+
+pub returns-clause-expires : goal.returns-clause-expires
+returns-clause-expires g c = rw c.kind.ensures.expires (rw c.kind.ensures.in_memory c.locate-at.ensures.expires)

@@ -1,4 +1,8 @@
-use Rattle.std.proofs.Common.{◌≡◌, refl, subst, rules}
+use Rattle.std.proofs.Common.{◌≡◌, ℕ, List, Option, refl, sym, subst, rules, ◌∙◌}
+use Rattle.record_pages.specs.Recs.{Rec}
+use Rattle.kset.specs.Look.{SetLookGives}
+use Rattle.kset.specs.Pages.{AreSpelledOn}
+use Rattle.kset.specs.Shown.{visible_in}
 use Rattle.std.specs.Bool.{OnFalse}
 use Rattle.record_pages.specs.declared.answer.Answer.{Answer}
 use Rattle.record_pages.specs.declared.answer.Answer.TheVariants.{Hit, Miss}
@@ -6,12 +10,15 @@ use Rattle.record_pages.specs.declared.looked.Looked.TheVariants as look
 use Rattle.record_pages.specs.declared.miss_cause.MissCause.TheVariants.{Expired, Fault, Damaged}
 use Rattle.record_pages.specs.declared.tier.Tier.TheVariants.{Log}
 use Rattle.klog.specs.declared.located_in_log.LocatedInLog.TheVariants as in_log
-use Rattle.kset.specs.Locate.{looked_of, sets_after}
+use Rattle.kset.specs.Locate.{looked_of, sets_after, NamesFirst}
 use Rattle.mover.specs.Get.{answer_of_set}
 use Rattle.mover.specs.Store.{StoreState}
 use Rattle.mover.specs.Touch.{answer_at, has_value, in_set, with_flash, LooksBelow}
 use Rattle.mover.proofs.public_laws.Keeping.{kept_device}
 use Rattle.mover.proofs.Touching.{below_by_log, below_by_set, log_looks, set_looks, in_set_answer, in_set_touched, in_set_can, in_set_stays}
+use Rattle.mover.specs.Lane.{lane_of}
+use Rattle.mover.specs.Timed.{flash_timed, expiry_at, expiry_at_memory}
+use Rattle.mover.proofs.Timing.{log_hit_timed, set_hit_timed, not_in_memory}
 use Rattle.mover.proofs.store.locate.locate_below.Goals as goal
 
 pub returns-in-Hit-clause-looks : goal.returns-in-Hit-clause-looks
@@ -68,3 +75,32 @@ pub returns-in-Absent-clause-stays : goal.returns-in-Absent-clause-stays
 returns-in-Absent-clause-stays g c =
     rw c.in_set.ensures (subst (λ b. OnFalse (has_value (in_set c.args.placed.now.set c.locate-located.result)) (c.locate-located.new.found ≡ b)) c.in-Absent.ensures.stays
     (in_set_stays c.args.placed.now.set c.locate-located.result _ c.locate-located.ensures.stays))
+
+pub returns-in-Hit-clause-timed : goal.returns-in-Hit-clause-timed
+returns-in-Hit-clause-timed g c = λ s is on.
+    let d = g.D.PageDevice in
+    let lane = lane_of d.held (with_flash s c.args.device.now c.args.log.now c.args.sets.now) in
+    log_hit_timed c.args.key.now c.args.moment lane c.locate.new.found c.in-Hit.entry c.in-Hit.expires (c.in-Hit.ensures.names on (is.log_spelled on))
+
+pub returns-in-Absent-clause-timed : goal.returns-in-Absent-clause-timed
+returns-in-Absent-clause-timed g c = λ s is on.
+    let d = g.D.PageDevice in
+    let key = c.args.key.now in
+    let placed = c.args.placed.now in
+    let located = c.locate-located.result in
+    let buffer = c.locate-located.new.found in
+    let sets = c.args.sets.now in
+    let read = c.in-Absent.ensures.reads in
+    let lane = lane_of d.held (with_flash s c.args.device.now c.args.log.now sets) in
+    let on_mid = read.honest ∙ on in
+    let same = read.same on in
+    let spelled = subst (λ (h : ℕ → Option (List ℕ)). AreSpelledOn g.row.PAGE h sets) (sym same) (is.sets_spelled on) in
+    let l = c.locate-located.ensures in
+    let of : (ℕ → Option (List ℕ)) → List (ℕ × Rec) = λ h. visible_in h sets placed.set in
+    let names = subst (λ (h : ℕ → Option (List ℕ)). NamesFirst (of h) key located) same (l.names on_mid spelled) in
+    let gives = subst (λ (h : ℕ → Option (List ℕ)). SetLookGives (of h) key c.args.moment sets placed.set (looked_of located buffer) (sets_after located placed.set sets)) same (l.gives on_mid spelled) in
+    rw c.in_set.ensures
+    (set_hit_timed key c.args.moment lane buffer placed sets (sets_after located placed.set sets) located c.requires.at (c.in-Absent.ensures.gives on (is.log_spelled on)).0 names gives)
+
+pub returns-in-Absent-clause-below : goal.returns-in-Absent-clause-below
+returns-in-Absent-clause-below g c = rw c.in_set.ensures (not_in_memory c.args.placed.now.set c.locate-located.result)

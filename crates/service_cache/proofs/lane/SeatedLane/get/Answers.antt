@@ -3,7 +3,7 @@ use Rattle.std.specs.Prelude.{IsTrue}
 use Rattle.certificate_checker.specs.Deeds.{Deed}
 use Rattle.mover.specs.Get.{answer_of}
 use Rattle.service_cache.specs.Seated.{IsSeated}
-use Rattle.service_cache.proofs.Seating.{seated_look, seated_read, seated_live}
+use Rattle.service_cache.proofs.Seating.{seated_look, seated_read, seated_live, seated_expiry}
 use Rattle.service_cache.proofs.Refusing.{is_key}
 use Rattle.service_cache.proofs.lane.SeatedLane.get.Goals as goal
 
@@ -25,6 +25,12 @@ returns-clause-live g c =
     let looks = c.in-Ok.ensures.seen in
     let ours : lane_of c.args.key.now ≡ c.self.inside.register.number = c.requires ∙ sym (ap (λ s. s.register.number) c.self.view_is) in
     rw (← c.self.view_is) (seated_live lane_of c.self.inside.register c.self.inside.lane.deeds c.self.invariant (IsTrue (g.D.PageDevice.honest c.self.inside.lane.store.device)) c.args.seat.now c.look.new.seat c.look.new.self c.args.key.now c.args.moment (answer_of c.in_ok-seen.seen c.get.new.found) looks ours c.in_ok-seen.ensures.gets.live)
+
+pub returns-clause-expires : goal.returns-clause-expires
+returns-clause-expires g c =
+    let lane_of = g.L.KeyLanes.lane_of in
+    let ours : lane_of c.args.key.now ≡ c.self.inside.register.number = c.requires ∙ sym (ap (λ s. s.register.number) c.self.view_is) in
+    rw (← c.self.view_is) (seated_expiry lane_of c.self.inside.register c.self.inside.lane.deeds c.self.invariant (IsTrue (g.D.PageDevice.honest c.self.inside.lane.store.device)) c.args.seat.now c.look.new.seat c.look.new.self c.args.key.now c.get.new.found c.in_ok-seen.seen c.in-Ok.ensures.seen ours c.in_ok-seen.ensures.expires)
 
 pub returns-clause-answered : goal.returns-clause-answered
 returns-clause-answered g c = is_key c.in_ok-seen.seen c.args.key.now c.in_ok-seen.ensures.empty c.in_ok-seen.ensures.too_long
