@@ -1,5 +1,5 @@
 /* check: any bytes as a trace. What kangaroo_check says of them is what a second checker says, which is written here after
- * docs/FORMATS.md and docs/JUDGING.md, plainly and in quadratic time. */
+ * docs/TRACES.md and docs/JUDGING.md, plainly and in quadratic time. */
 #include "fuzz.h"
 #include <inttypes.h>
 

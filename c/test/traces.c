@@ -1,7 +1,7 @@
 /* The check of a trace in a buffer. */
 #include "test.h"
 
-/* A timed trace of one put of `a`, and certificate 0: docs/FORMATS.md spells it. */
+/* A timed trace of one put of `a`, and certificate 0: docs/TRACES.md spells it. */
 static size_t read_example(unsigned char *to, size_t room) {
     const char *named = getenv("KANGAROO_TRACE");
     FILE *from = fopen(named != NULL ? named : "../examples/first.trace", "rb");
