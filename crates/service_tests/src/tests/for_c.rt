@@ -60,7 +60,7 @@ fn after(alloc: Global, steps: &[Step]) -> Result<(Option<usize>, Counters), Fai
     Ok((stray, lane.counters()))
 }
 
-const EACH_STATUS: [Step; 33] = [
+const EACH_STATUS: [Step; 36] = [
     Step::Miss(b"ax", 0, Status::Absent),
     Step::Put(b"ax", b"1", 9, Status::Done),
     Step::Hit(b"ax", 8, b"1", 1),
@@ -85,6 +85,9 @@ const EACH_STATUS: [Step; 33] = [
     Step::Fill(0, b"ax", b"3", Status::Done),
     Step::Fill(0, b"ax", b"4", Status::Stale),
     Step::Hit(b"ax", 0, b"3", 1),
+    Step::LeaseHit(0, b"ax"),
+    Step::Fill(0, b"ax", b"6", Status::Done),
+    Step::Fill(0, b"ax", b"7", Status::Stale),
     Step::Fill(0, b"", b"4", Status::WrongKey),
     Step::Fill(0, b"ax", &[7; 2049], Status::TooLarge),
     Step::Remove(b"ax", Status::Done),
@@ -141,7 +144,7 @@ fn each_status_comes_and_is_counted(rt: HostRuntime) -> Result<(), Fail> {
             counts.numbers[REMOVES],
             counts.numbers[BYTES_PUT]
         ),
-        (3, 3, 16)
+        (3, 3, 19)
     );
     assert_eq!(rt;
         (
@@ -149,7 +152,7 @@ fn each_status_comes_and_is_counted(rt: HostRuntime) -> Result<(), Fail> {
             counts.numbers[FILLS_STORED],
             counts.numbers[FILLS_STALE]
         ),
-        (2, 1, 2)
+        (3, 2, 3)
     );
     assert_eq!(rt;
         (

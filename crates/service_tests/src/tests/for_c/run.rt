@@ -17,6 +17,8 @@ pub enum Step {
     Short(&'static [u8], usize),
     /// The lease of a key that misses, kept at this place.
     Lease(usize, &'static [u8]),
+    /// The lease of a key that is there, kept at this place.
+    LeaseHit(usize, &'static [u8]),
     /// A fill by the lease at this place: a key, its value, and the status.
     Fill(usize, &'static [u8], &'static [u8], Status),
     /// A key, and the status.
@@ -51,6 +53,7 @@ fn gives(alloc: Global, lane: &mut CLane, leases: &mut [u64; 2], step: &Step) ->
             }
             None => false,
         },
+        Step::LeaseHit(place, key) => lane.lease(key, &mut leases[*place % 2]) == Status::Done,
         Step::Fill(place, key, value, status) => {
             fill(alloc, lane, leases[*place % 2], key, value) == *status
         }
@@ -83,7 +86,7 @@ fn fill(alloc: Global, lane: &mut CLane, writes: u64, key: &[u8], value: &[u8]) 
     }
 }
 
-// Whether the value is found in the tier, and no byte after it is written.
+// Whether the value is found in the tier, live, and no byte after it is written.
 fn hits(lane: &mut CLane, key: &[u8], moment: u64, value: &[u8], tier: u32) -> bool {
     let mut into = [0xeeu8; 16];
     let mut hit = NO_HIT;
@@ -91,10 +94,15 @@ fn hits(lane: &mut CLane, key: &[u8], moment: u64, value: &[u8], tier: u32) -> b
     let len = value.len().min(16);
     let told = Hit {
         length: len as u64,
+        expires: hit.expires,
         tier,
         reserved: 0,
     };
-    status == Status::Done && hit == told && &into[..len] == value && is_blank(&into[len..])
+    status == Status::Done
+        && hit == told
+        && (moment < hit.expires || hit.expires == u64::MAX)
+        && &into[..len] == value
+        && is_blank(&into[len..])
 }
 
 // Whether it is missed with this status, and nothing is written.
@@ -104,6 +112,7 @@ fn misses(lane: &mut CLane, key: &[u8], moment: u64, wanted: Status) -> bool {
     let status = lane.get(key, moment, &mut into, &mut hit);
     let none = Hit {
         length: 0,
+        expires: 0,
         tier: 0,
         reserved: 0,
     };
@@ -145,6 +154,7 @@ fn tends(lane: &mut CLane, did: u32, asked_device: u32, is_due: u32) -> bool {
 // A hit that no call tells.
 const NO_HIT: Hit = Hit {
     length: 77,
+    expires: 77,
     tier: 77,
     reserved: 77,
 };
