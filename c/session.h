@@ -27,7 +27,8 @@ typedef struct ks_session {
 typedef enum ks_wants {
     KS_MORE = 0,     /* more bytes: a step would take nothing */
     KS_STEP = 1,     /* nothing: ks_step */
-    KS_LANE = 2,     /* the lane of ks_wanted.place: ks_lane_step, in one hold of its lock */
+    KS_LANE = 2,     /* the lane of ks_wanted.place: ks_lane_step, in one hold of its lock. argument is 1 if an item may get a number,
+                      * ks_turn.cas, which is drawn in that hold; 0 if the step does not look at it */
     KS_FLUSH = 3,    /* that all items be flushed after argument seconds, 0 for at once; more than 30 days are seconds since 1970.
                       * Then ks_step, whose answer is OK */
     KS_STATS = 4,    /* lines of stats: argument is one of ks_stats. The server writes its lines `STAT name value`; then ks_step,
@@ -59,7 +60,7 @@ typedef struct ks_wanted {
 typedef struct ks_turn {
     uint64_t moment;   /* seconds since 1970 */
     uint64_t flushed;  /* the number that the last flush drew, 0 before the first: an item with a lower one is not live */
-    uint64_t cas;      /* KS_LANE: a number that no earlier item had, drawn in the hold; it is the item's if the step stores one */
+    uint64_t cas;      /* KS_LANE with argument 1: a number that no earlier item had, drawn in the hold; the item's if one is stored */
     uint32_t refuses;  /* 1: the server does not do what KS_FLUSH or KS_SHUTDOWN asks for, and the answer says so; else 0 */
     uint32_t reserved; /* 0 */
 } ks_turn;
@@ -102,7 +103,7 @@ typedef enum ks_outcome {
     KS_TOO_LARGE = 10, /* the object is too large; after set and ms the key has no value, nor after a store that was made and refused */
     KS_NO_MEMORY = 11, /* memory was refused to the store, and the key has no value */
     KS_REFUSED = 12,   /* the request is refused by its text, or the server refuses it */
-    KS_LOST = 13       /* the answer was not written, since memory was refused or the room is too short: the session is to be
+    KS_LOST = 13       /* the answer was not written, since it is longer than the room, or than KS_MOST_ANSWER: the session is to be
                         * closed. What the request asked for may have been done */
 } ks_outcome;
 

@@ -85,16 +85,16 @@ static void step_without_lane(step *it) {
     ks_step(&it->of->session, &it->turn, it->bytes, it->length, place_of_answer(it), KS_MOST_ANSWER, &it->done);
 }
 
-/* The number of a store is drawn before the number of the last flush is read: an item that a flush in between has flushed is
- * then seen as flushed, and what is stored over it is so of nothing. The other way, a number that grew could come of a
- * flushed item and yet outlive the flush. */
+/* A number is drawn only where an item may get it, so gets share no counter. It is drawn before the number of the last flush is
+ * read: an item that a flush in between has flushed is then seen as flushed, and what is stored over it is so of nothing. The
+ * other way, a number that grew could come of a flushed item and yet outlive the flush. */
 static void step_in_lane(step *it) {
     kangaroo_cache *cache = it->by->of->cache;
     numbers *drawn = &it->by->of->numbers;
     guarded_lane *lane = &cache->lanes[it->wanted.place.lane];
     uint32_t is_due = 0;
     pthread_mutex_lock(&lane->lock);
-    it->turn.cas = atomic_fetch_add(&drawn->next, 1);
+    if (it->wanted.argument != 0) it->turn.cas = atomic_fetch_add(&drawn->next, 1);
     it->turn.flushed = atomic_load(&drawn->flushed);
     ks_lane_step(&it->of->session, &lane->lane, &it->turn, it->bytes, it->length, place_of_answer(it), KS_MOST_ANSWER,
                  &it->done, &is_due);

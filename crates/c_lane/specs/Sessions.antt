@@ -52,7 +52,7 @@ argument_of_need (needs.Verbosity level) = level
 argument_of_need (needs.Shutdown graceful) = from_bool graceful
 argument_of_need needs.Close = 0
 
--- what a step needs, in numbers for C: a lane, 2, with the place of its key; or something else
+-- what a step needs, in numbers for C: a lane, 2, with the place of its key, and 1 if an item may get a number; or something else
 abbrev pub wanted_by : Seed → ℕ → WantShown → SessionWanted
-wanted_by seed lanes (WantLane key) = record { wants = 2; argument = 0; place = place_in seed lanes key }
+wanted_by seed lanes (WantLane key number) = record { wants = 2; argument = from_bool number; place = place_in seed lanes key }
 wanted_by seed lanes (WantAlone need) = record { wants = number_of_need need; argument = argument_of_need need; place = record { lane = 0; word = 0 } }

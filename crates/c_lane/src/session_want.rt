@@ -13,7 +13,8 @@ use memcached_session::{Need, Session, Want, what_is_wanted};
 pub struct SessionWanted {
     /// 0 more bytes, 1 nothing, 2 a lane, 3 a flush, 4 stats, 5 that the server says more or less, 6 its end, 7 that the client is closed.
     pub wants: u32,
-    /// The seconds of a flush, the number of a `StatsKind`, a level, or whether an end is graceful; else 0.
+    /// The seconds of a flush, the number of a `StatsKind`, a level, whether an end is graceful, or whether an item may get the
+    /// number that the server draws; else 0.
     pub argument: u32,
     /// The place of the key, if a lane is needed; else zeros.
     pub place: KeyPlace,
@@ -26,9 +27,9 @@ pub fn session_wanted(session: &Session, seed: &Seed, lanes: u32, bytes: &[u8]) 
     ensures few { result.wants ≡ 0 → length bytes.now ≤ 4089 }
 {
     match what_is_wanted(session, bytes) {
-        Want::Lane(key) => SessionWanted {
+        Want::Lane { key, gives_number } => SessionWanted {
             wants: 2,
-            argument: 0,
+            argument: u32::from(gives_number),
             place: place_of(seed, lanes, key),
         },
         Want::Alone(need) => {

@@ -30,7 +30,6 @@ pub extern "C" fn ks_want(
 /// Takes the next step of a session that asks nothing of a lane; nothing is done if it asks something.
 #[unsafe(no_mangle)]
 pub extern "C" fn ks_step(
-    alloc: Global,
     session: &mut Session,
     turn: &SessionTurn,
     bytes: &[u8],
@@ -41,7 +40,7 @@ pub extern "C" fn ks_step(
     ensures taken { to.new.taken ≤ length bytes.now }
     ensures answered { to.new.answered ≤ length answer.old }
 {
-    *to = step(alloc, session, turn, bytes, answer);
+    *to = step(session, turn, bytes, answer);
 }
 
 /// Takes the next step of a session with the lane of its key, and says whether upkeep is due in the lane after it: 1 or 0. Nothing is

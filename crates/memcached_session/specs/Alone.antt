@@ -9,7 +9,7 @@ use Rattle.memcached_text.specs.declared.text_answer.TextAnswer.TheVariants as a
 use Rattle.memcached_text.specs.Texts.{reply_text, fault_text}
 use Rattle.memcached_text.specs.Answers.{line_text}
 use Rattle.memcached_text.specs.Asked.{Asked, AskGet, AskGetAndTouch, AskStore, AskDelete, AskDelta, AskTouch, AskFlushAll, AskStats, AskVersion, AskVerbosity, AskQuit, AskShutdown, AskMetaNoop, AskMeta}
-use Rattle.memcached_text.specs.Steps.{Told, TellMore, TellRequest, TellData, TellTooLarge, TellKey, TellKeysEnd, TellRefused, TellBinary}
+use Rattle.memcached_text.specs.Steps.{Told, TellMore, TellRequest, TellData, TellTooLarge, TellKey, TellKeysEnd, TellRefused, TellForeign}
 use Rattle.memcached_session.specs.declared.outcome.SessionOutcome.{SessionOutcome}
 use Rattle.memcached_session.specs.declared.outcome.SessionOutcome.TheVariants as outcomes
 use Rattle.memcached_session.specs.declared.stats_kind.StatsKind.{StatsKind}
@@ -81,4 +81,4 @@ alone_said refuses (TellTooLarge asked) = large_said asked
 alone_said refuses (TellKey key exptime cas) = silent outcomes.Nothing
 alone_said refuses TellKeysEnd = said (reply_line replies.End) outcomes.Nothing
 alone_said refuses (TellRefused refusal) = unless_quiet refusal.noreply (line_text (fault_text refusal.fault)) outcomes.Refused
-alone_said refuses TellBinary = silent outcomes.Nothing
+alone_said refuses TellForeign = silent outcomes.Nothing

@@ -8,7 +8,7 @@ use Rattle.memcached_text.specs.declared.verb.Direction.TheVariants.{Up, Down}
 use Rattle.memcached_text.specs.declared.verb.MetaCommand.{MetaCommand}
 use Rattle.memcached_text.specs.declared.verb.MetaCommand.TheVariants as metas
 use Rattle.memcached_text.specs.Asked.{Asked, AskGet, AskGetAndTouch, AskStore, AskDelete, AskDelta, AskTouch, AskFlushAll, AskStats, AskVersion, AskVerbosity, AskQuit, AskShutdown, AskMetaNoop, AskMeta}
-use Rattle.memcached_text.specs.Steps.{Told, TellMore, TellRequest, TellData, TellTooLarge, TellKey, TellKeysEnd, TellRefused, TellBinary}
+use Rattle.memcached_text.specs.Steps.{Told, TellMore, TellRequest, TellData, TellTooLarge, TellKey, TellKeysEnd, TellRefused, TellForeign}
 use Rattle.memcached_session.specs.declared.command.SessionCommand.{SessionCommand}
 use Rattle.memcached_session.specs.declared.command.SessionCommand.TheVariants as commands
 use Rattle.memcached_session.specs.declared.outcome.SessionOutcome.{SessionOutcome}
@@ -96,4 +96,4 @@ command_of (TellTooLarge asked) = command_asked asked
 command_of (TellKey key exptime cas) = command_of_key exptime
 command_of TellKeysEnd = commands.None
 command_of (TellRefused refusal) = commands.None
-command_of TellBinary = commands.None
+command_of TellForeign = commands.None

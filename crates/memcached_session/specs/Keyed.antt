@@ -1,14 +1,15 @@
 -- What a step asks of the lane of its key.
-use Rattle.std.specs.Prelude.{ℕ, Bool, false, List, Option, Some, None, option_and_then, if◌then◌else◌}
+use Rattle.std.specs.Prelude.{ℕ, Bool, true, false, List, Option, Some, None, option_and_then, if◌then◌else◌}
 use Rattle.memcached_text.specs.declared.exptime.Exptime.{Exptime}
 use Rattle.memcached_text.specs.declared.store_command.StoreCommand.{StoreCommand}
 use Rattle.memcached_text.specs.declared.store_command.StoreCommand.TheVariants.{Set, Add, Replace, Append, Prepend, Cas}
 use Rattle.memcached_text.specs.declared.verb.MetaCommand.{MetaCommand}
 use Rattle.memcached_text.specs.declared.verb.MetaCommand.TheVariants as metas
 use Rattle.memcached_text.specs.Asked.{Asked, Storing, Changing, MetaAsking, AskGet, AskGetAndTouch, AskStore, AskDelete, AskDelta, AskTouch, AskFlushAll, AskStats, AskVersion, AskVerbosity, AskQuit, AskShutdown, AskMetaNoop, AskMeta, storing_shown, delta_shown, meta_shown}
-use Rattle.memcached_text.specs.Steps.{Told, TellMore, TellRequest, TellData, TellTooLarge, TellKey, TellKeysEnd, TellRefused, TellBinary}
+use Rattle.memcached_text.specs.Steps.{Told, TellMore, TellRequest, TellData, TellTooLarge, TellKey, TellKeysEnd, TellRefused, TellForeign}
 use Rattle.memcached_text.specs.Words.{is_key}
 use Rattle.memcached_session.specs.declared.unserved.Unserved.{Unserved}
+use Rattle.memcached_session.specs.MetaReading.{has_flag}
 use Rattle.memcached_session.specs.Unserving.{unserved_in}
 use Rattle.memcached_session.specs.declared.keyed.Keyed.{Keyed}
 use Rattle.memcached_session.specs.declared.keyed.Keyed.TheVariants as keyed
@@ -54,6 +55,20 @@ key_in (KeyMetaGet meta) = meta.key
 key_in (KeyMetaSet meta block) = meta.key
 key_in (KeyMetaDelete meta) = meta.key
 key_in (KeyMetaDelta meta) = meta.key
+
+-- an item may get the number that the server draws: that of each store, of N of mg, and of I of md
+abbrev pub gives_number : KeyAsked → Bool
+gives_number (KeyGet key cas) = false
+gives_number (KeyGetAndTouch key exptime cas) = false
+gives_number (KeyStore store block) = true
+gives_number (KeyTooLarge key noreply) = false
+gives_number (KeyDelete key noreply) = false
+gives_number (KeyDelta delta) = true
+gives_number (KeyTouch key exptime noreply) = false
+gives_number (KeyMetaGet meta) = has_flag 78 meta.flags
+gives_number (KeyMetaSet meta block) = true
+gives_number (KeyMetaDelete meta) = has_flag 73 meta.flags
+gives_number (KeyMetaDelta meta) = true
 
 -- nothing is asked of a lane if the command is not served
 abbrev pub unless_unserved : Option Unserved → Option KeyAsked → Option KeyAsked
@@ -119,7 +134,7 @@ keyed_told (TellKey key None cas) = Some (KeyGet key cas)
 keyed_told (TellKey key (Some exptime) cas) = Some (KeyGetAndTouch key exptime cas)
 keyed_told TellKeysEnd = None
 keyed_told (TellRefused refusal) = None
-keyed_told TellBinary = None
+keyed_told TellForeign = None
 
 -- the same, if its key is one: that of any request is
 abbrev pub if_keyed : KeyAsked → Option KeyAsked

@@ -2,7 +2,7 @@
 use Rattle.std.specs.Prelude.{ℕ, ◌^◌, Bool, false, true, List, nat_lt, ◌==◌, if◌then◌else◌, Option, Some, None, is_some, unwrap_or, slice_index_or}
 use Rattle.memcached_text.specs.declared.exptime.Exptime.{Exptime}
 use Rattle.memcached_text.specs.declared.exptime.Exptime.TheVariants as exptimes
-use Rattle.memcached_text.specs.Meta.{token_at, number_at, exptime_at}
+use Rattle.memcached_text.specs.Meta.{token_at, number_at, exptime_at, is_before}
 use Rattle.item_lane.specs.declared.change.Change.{Change}
 use Rattle.item_lane.specs.declared.change.Change.TheVariants.{Increment, Decrement}
 use Rattle.item_lane.specs.declared.expiry_change.ExpiryChange.{ExpiryChange}
@@ -33,27 +33,30 @@ change_by moment (Some exptime) = Becomes (expires_at moment exptime)
 abbrev pub touch_in : ℕ → List ℕ → ExpiryChange
 touch_in moment flags = change_by moment (exptime_at 84 flags)
 
--- N: when an item expires that a miss stores; T says it, if it stands in the line too
+-- N: when an item expires that a miss stores; T says it, if it stands in the line after N
 abbrev pub new_expiry : ℕ → List ℕ → Exptime → Option ℕ
-new_expiry moment flags exptime = expiry_after (touch_in moment flags) (expires_at moment exptime)
+new_expiry moment flags exptime =
+    if is_before 84 78 flags then expires_at moment exptime
+    else expiry_after (touch_in moment flags) (expires_at moment exptime)
 
 abbrev pub vivify_by : ℕ → ℕ → List ℕ → Option Exptime → Option Vivify
 vivify_by moment cas flags None = None
 vivify_by moment cas flags (Some exptime) = Some (record { expires = new_expiry moment flags exptime; cas = cas })
 
--- R: an item that expires before these seconds are over is to be refreshed; 0 and a negative number ask for none
-abbrev pub recache_by : ℕ → Option Exptime → Option Recache
-recache_by moment None = None
-recache_by moment (Some exptimes.Never) = None
-recache_by moment (Some exptimes.Past) = None
-recache_by moment (Some (exptimes.At seconds)) = Some (record { before = unwrap_or (expires_at moment (exptimes.At seconds)) 0; is_after_touch = false })
+-- R: an item that expires before these seconds are over is to be refreshed; 0 and a negative number ask for none. The expiry that
+-- counts is the one that T gives, if T stands in the line before R.
+abbrev pub recache_by : ℕ → List ℕ → Option Exptime → Option Recache
+recache_by moment flags None = None
+recache_by moment flags (Some exptimes.Never) = None
+recache_by moment flags (Some exptimes.Past) = None
+recache_by moment flags (Some (exptimes.At seconds)) = Some (record { before = unwrap_or (expires_at moment (exptimes.At seconds)) 0; is_after_touch = is_before 84 82 flags })
 
 -- mg
 abbrev pub meta_get_in : ℕ → ℕ → List ℕ → MetaGet
 meta_get_in moment cas flags = record {
   touch = touch_in moment flags;
   vivify = vivify_by moment cas flags (exptime_at 78 flags);
-  recache = recache_by moment (exptime_at 82 flags);
+  recache = recache_by moment flags (exptime_at 82 flags);
 }
 
 -- the first byte of a token, 0 if there is none

@@ -14,9 +14,12 @@ use Rattle.memcached_text.specs.declared.meta_answer.MetaStatus.TheVariants as s
 use Rattle.memcached_text.specs.declared.meta_answer.Ttl.{Ttl}
 use Rattle.memcached_text.specs.declared.meta_answer.Ttl.TheVariants.{Unlimited, Seconds}
 use Rattle.memcached_text.specs.Answers.{meta_text}
+use Rattle.memcached_text.specs.Meta.{is_before}
 use Rattle.memcached_text.specs.Asked.{MetaAsking}
 use Rattle.item_lane.specs.declared.command_reply.CommandReply.{CommandReply}
 use Rattle.item_lane.specs.declared.command_reply.CommandReply.TheVariants as reply
+use Rattle.item_lane.specs.declared.expiry_change.ExpiryChange.{ExpiryChange}
+use Rattle.item_lane.specs.declared.expiry_change.ExpiryChange.TheVariants.{Stays}
 use Rattle.item_lane.specs.declared.item_marks.ItemMarks.{ItemMarks}
 use Rattle.item_lane.specs.Cells.{Kept}
 use Rattle.item_lane.specs.declared.meta_counting.MetaDelta.{MetaDelta}
@@ -135,10 +138,14 @@ told_of moment flags marks item = Shown (record {
   marks = record { is_awaited = marks.is_awaited; is_stale = marks.is_stale; has_won = marks.has_won };
 })
 
--- the item that a meta get tells of: the live one with the expiry that it gave, or the empty one that a miss stored
-abbrev pub seen_by : MetaGet → Option Kept → Option Kept
-seen_by request None = option_map vivified request.vivify
-seen_by request (Some item) = Some (with_expiry request.touch item)
+-- t: what is told is the expiry that T gives; if t stands in the line before T, the one that the item had
+abbrev pub told_change : List ℕ → ExpiryChange → ExpiryChange
+told_change flags touch = if is_before 116 84 flags then Stays else touch
+
+-- the item that a meta get tells of: the live one with the expiry that is told, or the empty one that a miss stored
+abbrev pub seen_by : List ℕ → MetaGet → Option Kept → Option Kept
+seen_by flags request None = option_map vivified request.vivify
+seen_by flags request (Some item) = Some (with_expiry (told_change flags request.touch) item)
 
 abbrev pub told_seen : ℕ → List ℕ → ItemMarks → Option Kept → MetaSaid
 told_seen moment flags marks None = bare WentMiss
@@ -146,7 +153,7 @@ told_seen moment flags marks (Some item) = told_of moment flags marks item
 
 -- mg: q keeps back a miss
 abbrev pub get_said : ℕ → List ℕ → MetaGet → Option Kept → Result CommandReply PutFault → MetaSaid
-get_said moment flags request item (Ok (reply.Found marks)) = told_seen moment flags marks (seen_by request item)
+get_said moment flags request item (Ok (reply.Found marks)) = told_seen moment flags marks (seen_by flags request item)
 get_said moment flags request item (Ok _) = unless_q flags (bare WentMiss)
 get_said moment flags request item (Err fault) = Line (fault_reply fault)
 
@@ -166,16 +173,16 @@ delete_said flags (Ok reply.Exists) = bare WentExists
 delete_said flags (Ok _) = bare WentNotFound
 delete_said flags (Err fault) = Line (fault_reply fault)
 
--- the expiry of the item that holds the number
-abbrev pub counted_expiry : MetaDelta → Option Kept → Option ℕ
-counted_expiry request None = option_and_then (λ initial. initial.expires) request.initial
-counted_expiry request (Some item) = expiry_after request.touch item.head.expires
+-- the expiry that is told of the item that holds the number
+abbrev pub counted_expiry : List ℕ → MetaDelta → Option Kept → Option ℕ
+counted_expiry flags request None = option_and_then (λ initial. initial.expires) request.initial
+counted_expiry flags request (Some item) = expiry_after (told_change flags request.touch) item.head.expires
 
 -- ma: q keeps back the number
 abbrev pub delta_said : ℕ → List ℕ → MetaDelta → Option Kept → Result CommandReply PutFault → MetaSaid
 delta_said moment flags request item (Ok (reply.Number number)) = unless_q flags (Shown (record {
   went = went_with flags (decimal number);
-  returned = record { cas = Some request.cas; flags = None; size = None; ttl = Some (ttl_of moment (counted_expiry request item)) };
+  returned = record { cas = Some request.cas; flags = None; size = None; ttl = Some (ttl_of moment (counted_expiry flags request item)) };
   marks = no_marks;
 }))
 delta_said moment flags request item (Ok reply.NotNumber) = Line replies.NotNumber

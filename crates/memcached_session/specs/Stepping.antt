@@ -1,5 +1,5 @@
 -- One step of a session.
-use Rattle.std.specs.Prelude.{◌≡◌, ℕ, Bool, not, ◌==◌, List, ◌++◌, length, drop, Option, Some, None}
+use Rattle.std.specs.Prelude.{◌≡◌, ℕ, Bool, not, ◌==◌, ◌&&◌, nat_le, if◌then◌else◌, List, ◌++◌, length, drop, Option, Some, None}
 use Rattle.service_lane.specs.Serving.{Serving}
 use Rattle.memcached_text.specs.declared.reader_state.ReaderState.{ReaderState}
 use Rattle.memcached_text.specs.declared.reader_state.ReaderState.TheVariants.{Closed}
@@ -31,6 +31,10 @@ pub record Fronts (text old : List ℕ) (n : ℕ) (new : List ℕ) : Type 0 wher
   pub count : n ≡ length text
   pub room : new ≡ text ++ drop n old
 
+-- how many bytes of a text are written to a room: all of them; none if the text is longer than the room, or than 4,096 bytes
+abbrev pub written_in : List ℕ → List ℕ → Option ℕ
+written_in room text = if nat_le (length text) 4096 && nat_le (length text) (length room) then Some (length text) else None
+
 abbrev pub Writes : List ℕ → List ℕ → Option ℕ → List ℕ → Type 0
 Writes text old None new = new ≡ old
 Writes text old (Some n) new = Fronts text old n new
@@ -45,12 +49,11 @@ abbrev pub state_by : ReaderState → Option ℕ → ReaderState
 state_by state None = Closed
 state_by state (Some n) = state
 
--- A step ends: the answer is written, or lost since memory was refused or the room is too short; and the session stands where it is to.
+-- A step ends: the answer is written, or lost exactly if it is too long for the room; and the session stands where it is to.
 pub record Settles (taken : ℕ) (state : ReaderState) (command : ℕ) (said : Said) (room : List ℕ) (done : SessionDone) (session : Session) (new_room : List ℕ) : Type 0 where
-  pub written : Option ℕ
-  pub writes : Writes said.text room written new_room
-  pub done_is : done ≡ done_by taken command said.outcome written
-  pub session_is : state_of session ≡ state_by state written
+  pub writes : Writes said.text room (written_in room said.text) new_room
+  pub done_is : done ≡ done_by taken command said.outcome (written_in room said.text)
+  pub session_is : state_of session ≡ state_by state (written_in room said.text)
 
 -- what a reader gave was answered so
 abbrev pub SettlesAs : Outcome → Said → List ℕ → SessionDone → Session → List ℕ → Type 0

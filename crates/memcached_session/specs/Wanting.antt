@@ -4,7 +4,7 @@ use Rattle.std.specs.Str.{bytes_eq}
 use Rattle.memcached_text.specs.declared.reader_state.ReaderState.{ReaderState}
 use Rattle.memcached_text.specs.declared.reader_state.ReaderState.TheVariants.{Line, Keys, SkipLine, SkipData, Closed}
 use Rattle.memcached_text.specs.Asked.{Asked, AskGet, AskGetAndTouch, AskStore, AskDelete, AskDelta, AskTouch, AskFlushAll, AskStats, AskVersion, AskVerbosity, AskQuit, AskShutdown, AskMetaNoop, AskMeta}
-use Rattle.memcached_text.specs.Steps.{Told, Outcome, TellMore, TellRequest, TellData, TellTooLarge, TellKey, TellKeysEnd, TellRefused, TellBinary, step_of}
+use Rattle.memcached_text.specs.Steps.{Told, Outcome, TellMore, TellRequest, TellData, TellTooLarge, TellKey, TellKeysEnd, TellRefused, TellForeign, step_of}
 use Rattle.memcached_session.specs.declared.session.Session.{Session}
 use Rattle.memcached_session.specs.declared.stats_kind.StatsKind.{StatsKind}
 use Rattle.memcached_session.specs.declared.stats_kind.StatsKind.TheVariants as kinds
@@ -12,7 +12,7 @@ use Rattle.memcached_session.specs.declared.want.Need.{Need}
 use Rattle.memcached_session.specs.declared.want.Need.TheVariants as needs
 use Rattle.memcached_session.specs.declared.want.Want.{Want}
 use Rattle.memcached_session.specs.declared.want.Want.TheVariants as wants
-use Rattle.memcached_session.specs.Keyed.{KeyAsked, key_in, keyed_of}
+use Rattle.memcached_session.specs.Keyed.{KeyAsked, key_in, gives_number, keyed_of}
 use Rattle.memcached_session.specs.Standing.{state_of}
 
 -- the kind that an argument of stats names
@@ -71,20 +71,20 @@ want_alone taken (TellTooLarge asked) = needs.Step
 want_alone taken (TellKey key exptime cas) = needs.Step
 want_alone taken TellKeysEnd = needs.Step
 want_alone taken (TellRefused refusal) = needs.Step
-want_alone taken TellBinary = needs.Step
+want_alone taken TellForeign = needs.Step
 
--- what the next step needs: the lane of a key, or something else
+-- what the next step needs: the lane of a key, and a number for an item or none; or something else
 pub data WantShown : Type 0 where
-  WantLane : List ℕ → WantShown
+  WantLane : List ℕ → Bool → WantShown
   WantAlone : Need → WantShown
 
 abbrev pub want_shown : Want → WantShown
-want_shown (wants.Lane key) = WantLane key.now
+want_shown (wants.Lane key number) = WantLane key.now number
 want_shown (wants.Alone need) = WantAlone need
 
 -- the lane of the key that something is asked of, if anything is
 abbrev pub want_by : Option KeyAsked → ℕ → Told → WantShown
-want_by (Some asked) taken told = WantLane (key_in asked)
+want_by (Some asked) taken told = WantLane (key_in asked) (gives_number asked)
 want_by None taken told = WantAlone (want_alone taken told)
 
 -- what the next step needs, by where the reader stands and what it gives
@@ -94,3 +94,24 @@ want_at state o = if is_closed state then WantAlone needs.Close else want_by (ke
 -- what the next step of a session needs, by the bytes at hand
 abbrev pub want_of : Session → List ℕ → WantShown
 want_of session bytes = want_at (state_of session) (step_of 2039 (state_of session) bytes)
+
+-- an item may get the number that the server draws
+abbrev pub draws : WantShown → Bool
+draws (WantLane key number) = number
+draws (WantAlone need) = false
+
+-- a step takes bytes, and asks nothing of a lane
+abbrev pub is_alone : WantShown → Bool
+is_alone (WantLane key number) = false
+is_alone (WantAlone needs.More) = false
+is_alone (WantAlone needs.Step) = true
+is_alone (WantAlone (needs.FlushAll delay)) = true
+is_alone (WantAlone (needs.Stats kind)) = true
+is_alone (WantAlone (needs.Verbosity level)) = true
+is_alone (WantAlone (needs.Shutdown graceful)) = true
+is_alone (WantAlone needs.Close) = false
+
+-- a step takes bytes, and asks something of the lane of a key
+abbrev pub is_keyed : WantShown → Bool
+is_keyed (WantLane key number) = true
+is_keyed (WantAlone need) = false

@@ -31,7 +31,7 @@ pub(crate) fn answer_alone<'a>(refuses: bool, event: &StreamEvent<'_>) -> Answer
             TextAnswer::Refused(refusal.fault),
             SessionOutcome::Refused,
         ),
-        StreamEvent::Binary => Answered::silent(SessionOutcome::Nothing),
+        StreamEvent::Foreign => Answered::silent(SessionOutcome::Nothing),
     }
 }
 

@@ -64,7 +64,7 @@ impl SessionCommand {
             } => SessionCommand::GetAndTouch,
             StreamEvent::KeysEnd => SessionCommand::None,
             StreamEvent::Refused(_) => SessionCommand::None,
-            StreamEvent::Binary => SessionCommand::None,
+            StreamEvent::Foreign => SessionCommand::None,
         }
     }
 

@@ -5,8 +5,9 @@ ghost use Rattle.record_pages.specs.Bounded.{IsKey};
 ghost use Rattle.memcached_text.specs.Asked.{shown, storing_shown, meta_shown};
 ghost use Rattle.memcached_text.specs.Steps.{event_shown};
 ghost use Rattle.memcached_text.specs.Words.{is_key};
-ghost use Rattle.memcached_session.specs.Keyed.{keyed_shown, key_in, keyed_request, keyed_block, keyed_meta, if_served, keyed_set, keyed_large, keyed_told, keyed_of};
+ghost use Rattle.memcached_session.specs.Keyed.{keyed_shown, key_in, gives_number, keyed_request, keyed_block, keyed_meta, if_served, keyed_set, keyed_large, keyed_told, keyed_of};
 
+use crate::meta_reading::has_flag;
 use crate::unserved::Unserved;
 use memcached_text::{
     DeltaRequest, Exptime, MAX_KEY_LEN, MetaCommand, MetaRequest, StoreCommand, StoreRequest,
@@ -95,6 +96,25 @@ impl<'a> Keyed<'a> {
         }
     }
 
+    /// Whether an item may get the number that the server draws.
+    pub(crate) fn gives_number(&self) -> bool
+        ensures { result ≡ gives_number (keyed_shown self.now) }
+    {
+        match self {
+            Keyed::Get { .. } => false,
+            Keyed::GetAndTouch { .. } => false,
+            Keyed::Store { .. } => true,
+            Keyed::TooLarge { .. } => false,
+            Keyed::Delete { .. } => false,
+            Keyed::Delta(_) => true,
+            Keyed::Touch { .. } => false,
+            Keyed::MetaGet(meta) => has_flag(meta, b'N'),
+            Keyed::MetaSet { .. } => true,
+            Keyed::MetaDelete(meta) => has_flag(meta, b'I'),
+            Keyed::MetaDelta(_) => true,
+        }
+    }
+
     // The same, by what was given.
     fn told(event: &StreamEvent<'a>) -> Option<Keyed<'a>>
         ensures { option_map keyed_shown result ≡ keyed_told (event_shown event.now) }
@@ -120,7 +140,7 @@ impl<'a> Keyed<'a> {
             }),
             StreamEvent::KeysEnd => None,
             StreamEvent::Refused(_) => None,
-            StreamEvent::Binary => None,
+            StreamEvent::Foreign => None,
         }
     }
 

@@ -1,6 +1,7 @@
 // A step with the lane of its key.
-ghost use Rattle.std.specs.Prelude.{◌≤◌, length};
+ghost use Rattle.std.specs.Prelude.{◌≡◌, ℕ, true, false, ◌≤◌, length};
 ghost use Rattle.memcached_session.specs.Stepping.{LaneSteps};
+ghost use Rattle.memcached_session.specs.Wanting.{want_of, is_keyed, draws};
 ghost use Rattle.memcached_session.specs.Framing.{frame_of, turn_of};
 
 use crate::done::SessionDone;
@@ -19,8 +20,9 @@ use std::alloc::Global;
 /// room. If it asks nothing of a lane, nothing is done. The word of admission decides whether the pair that leaves memory for a
 /// store enters the log.
 ///
-/// If memory is refused for the answer, or the room is too short for it, the session is to be closed; 4,096 bytes are enough. What
-/// was asked of the lane is done all the same.
+/// An answer that is longer than the room, or than 4,096 bytes, is lost, and the session is to be closed. What was asked of the lane is
+/// done all the same. No memory is asked for the answer. If something is asked of a lane, a step takes a byte or more. A step whose
+/// `Want::Lane` has no `gives_number` is the same whatever number the turn has.
 pub fn lane_step<D: PageDevice<PAGE>, const PAGE: usize>(
     lane: &mut ServiceLane<D, PAGE>,
     alloc: Global,
@@ -33,8 +35,13 @@ pub fn lane_step<D: PageDevice<PAGE>, const PAGE: usize>(
 ) -> SessionDone
     ensures steps { LaneSteps (frame_of PAGE D.honest D.failures D.held (turn_of turn.now word) turn.now.cas)
         session.old bytes.now room.old lane.old result session.new room.new lane.new }
+    ensures unnumbered { draws (want_of session.old bytes.now) ≡ false → (cas : ℕ) →
+        LaneSteps (frame_of PAGE D.honest D.failures D.held (turn_of turn.now word) cas)
+        session.old bytes.now room.old lane.old result session.new room.new lane.new }
     ensures taken { result.taken ≤ length bytes.now }
     ensures answered { result.answered ≤ length room.old }
+    ensures most { result.answered ≤ 4096 }
+    ensures some { is_keyed (want_of session.old bytes.now) ≡ true → 1 ≤ result.taken }
 {
     let mut reader = session.reader();
     let step = reader.take(bytes);
@@ -50,7 +57,7 @@ pub fn lane_step<D: PageDevice<PAGE>, const PAGE: usize>(
                 found,
                 &mut digits,
             );
-            settle(alloc, &step, reader.state, &answered, session, room)
+            settle(&step, reader.state, &answered, session, room)
         }
         None => SessionDone::nothing(),
     }

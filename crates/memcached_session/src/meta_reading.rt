@@ -28,10 +28,13 @@ pub(crate) fn touch_in(request: &MetaRequest<'_>, moment: u64) -> ExpiryChange
     }
 }
 
-/// `N`: when an item expires that a miss stores. `T` says it, if it stands in the line too.
+/// `N`: when an item expires that a miss stores. `T` says it, if it stands in the line after `N`.
 fn new_expiry(request: &MetaRequest<'_>, moment: u64, exptime: Exptime) -> Option<u32>
     ensures { result ≡ new_expiry moment request.now.flags.now exptime }
 {
+    if request.is_before(b'T', b'N') {
+        return expires_at(exptime, moment);
+    }
     match touch_in(request, moment) {
         ExpiryChange::Becomes(expires) => expires,
         ExpiryChange::Stays => expires_at(exptime, moment),
@@ -45,7 +48,7 @@ pub(crate) fn meta_get_in(request: &MetaRequest<'_>, moment: u64, cas: u64) -> M
     MetaGet {
         touch: touch_in(request, moment),
         vivify: vivify_in(request, moment, cas),
-        recache: recache_by(moment, request.exptime(b'R')),
+        recache: recache_in(request, moment),
     }
 }
 
@@ -65,13 +68,13 @@ fn vivify_in(request: &MetaRequest<'_>, moment: u64, cas: u64) -> Option<Vivify>
 ghost use Rattle.memcached_text.specs.Meta.{exptime_at, number_at};
 
 // When an item is to be refreshed.
-fn recache_by(moment: u64, exptime: Option<Exptime>) -> Option<Recache>
-    ensures { result ≡ recache_by moment exptime }
+fn recache_in(request: &MetaRequest<'_>, moment: u64) -> Option<Recache>
+    ensures { result ≡ recache_by moment request.now.flags.now (exptime_at 82 request.now.flags.now) }
 {
-    match exptime {
+    match request.exptime(b'R') {
         Some(Exptime::At(seconds)) => Some(Recache {
             before: expires_at(Exptime::At(seconds), moment).unwrap_or(0),
-            is_after_touch: false,
+            is_after_touch: request.is_before(b'T', b'R'),
         }),
         Some(Exptime::Never) => None,
         Some(Exptime::Past) => None,

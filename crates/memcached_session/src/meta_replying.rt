@@ -3,7 +3,7 @@ ghost use Rattle.std.specs.Prelude.{◌≡◌, ◌-◌, length};
 ghost use Rattle.std.specs.Option.{option_map};
 ghost use Rattle.item_lane.specs.Cells.{kept_shown};
 ghost use Rattle.memcached_session.specs.Expiring.{clamped};
-ghost use Rattle.memcached_session.specs.MetaSaying.{meta_reply_shown, fault_reply, ttl_of, went_shown, went_with, told_of, seen_by, told_seen, get_said, set_said, delete_said, counted_expiry, delta_said};
+ghost use Rattle.memcached_session.specs.MetaSaying.{meta_reply_shown, fault_reply, ttl_of, went_shown, went_with, told_of, told_change, seen_by, told_seen, get_said, set_said, delete_said, counted_expiry, delta_said};
 
 use crate::expiring::clamped;
 use crate::meta_reading::has_flag;
@@ -41,10 +41,13 @@ fn to_seen<'a>(
     marks: ItemMarks,
 ) -> MetaReply<'a>
     ensures { meta_reply_shown result ≡ told_seen moment request.now.flags.now marks
-        (seen_by asked (option_map kept_shown item.entry)) }
+        (seen_by request.now.flags.now asked (option_map kept_shown item.entry)) }
 {
     match item {
-        Some(item) => to_item(request, moment, with_expiry(asked.touch, item), marks),
+        Some(item) => {
+            let change = told_change(request, asked.touch);
+            to_item(request, moment, with_expiry(change, item), marks)
+        }
         None => match asked.vivify {
             Some(vivify) => to_item(request, moment, vivified(vivify), marks),
             None => MetaReply::bare(MetaStatus::Miss),
@@ -53,6 +56,17 @@ fn to_seen<'a>(
 }
 
 ghost use Rattle.item_lane.specs.Meta.{expiry_after, vivified, with_expiry};
+
+// What is told of a change of an item's expiry: nothing, if `t` stands in the line before `T`.
+fn told_change(request: &MetaRequest<'_>, touch: ExpiryChange) -> ExpiryChange
+    ensures { result ≡ told_change request.now.flags.now touch }
+{
+    if request.is_before(b't', b'T') {
+        ExpiryChange::Stays
+    } else {
+        touch
+    }
+}
 
 // An item with another expiry.
 fn with_expiry(change: ExpiryChange, item: CacheItem<'_>) -> CacheItem<'_>
@@ -218,7 +232,7 @@ pub(crate) fn to_delta<'a>(
                 cas: Some(asked.cas),
                 flags: None,
                 size: None,
-                ttl: Some(ttl(moment, counted_expiry(asked, done.item))),
+                ttl: Some(ttl(moment, counted_expiry(request, asked, done.item))),
             };
             let shown = MetaShown {
                 status,
@@ -234,12 +248,16 @@ pub(crate) fn to_delta<'a>(
     }
 }
 
-// The expiry of the item that holds the number.
-fn counted_expiry(asked: MetaDelta, item: Option<CacheItem<'_>>) -> Option<u32>
-    ensures { result ≡ counted_expiry asked (option_map kept_shown item.entry) }
+// The expiry that is told of the item that holds the number.
+fn counted_expiry(
+    request: &MetaRequest<'_>,
+    asked: MetaDelta,
+    item: Option<CacheItem<'_>>,
+) -> Option<u32>
+    ensures { result ≡ counted_expiry request.now.flags.now asked (option_map kept_shown item.entry) }
 {
     match item {
-        Some(item) => after(asked.touch, item.head.expires),
+        Some(item) => after(told_change(request, asked.touch), item.head.expires),
         None => match asked.initial {
             Some(initial) => initial.expires,
             None => None,

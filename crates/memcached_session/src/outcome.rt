@@ -31,7 +31,7 @@ pub enum SessionOutcome {
     NoMemory,
     /// The request is refused.
     Refused,
-    /// The answer was not written, and the session is to be closed.
+    /// The answer is longer than the room, so it was not written, and the session is to be closed.
     Lost,
 }
 

@@ -8,7 +8,8 @@ pub struct SessionTurn {
     pub moment: u64,
     /// The number that the last `flush_all` drew, or 0 before the first: an item whose cas unique is below it is not live.
     pub flushed: u64,
-    /// A number that no earlier item had: it is the item's if the step stores one.
+    /// A number that no earlier item had: it is the item's if the step stores one. A step whose `Want::Lane` has no `gives_number` does
+    /// not look at it.
     pub cas: u64,
     /// Not 0 if the server does not do what the step asks of it, a flush or its end; the answer says so then.
     pub refuses: u32,

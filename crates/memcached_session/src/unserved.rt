@@ -1,5 +1,5 @@
 // What is not served.
-ghost use Rattle.std.specs.Prelude.{◌≡◌};
+ghost use Rattle.std.specs.Prelude.{◌≡◌, ◌≤◌, length};
 ghost use Rattle.memcached_text.specs.Asked.{meta_shown};
 ghost use Rattle.memcached_session.specs.Unserving.{unserved_text, unserved_in};
 
@@ -22,7 +22,8 @@ pub enum Unserved {
 impl Unserved {
     /// The line that says so, with its end.
     pub(crate) fn text(self) -> &'static str
-        ensures { result.now ≡ unserved_text self }
+        ensures text { result.now ≡ unserved_text self }
+        ensures short { length result.now ≤ 40 }
     {
         match self {
             Unserved::Debug => "CLIENT_ERROR me is not served\r\n",

@@ -13,7 +13,12 @@ use memcached_text::{ReaderState, StreamEvent, TextRequest};
 #[derive(Clone, Copy, Debug)]
 pub enum Want<'a> {
     /// The lane of this key: `lane_step`.
-    Lane(&'a [u8]),
+    Lane {
+        /// The key.
+        key: &'a [u8],
+        /// Whether an item may get the turn's cas number. If not, the step is the same whatever that number is, so none need be drawn.
+        gives_number: bool,
+    },
     /// No lane: `step`, after what is needed was done.
     Alone(Need),
 }
@@ -48,7 +53,10 @@ pub fn what_is_wanted<'a>(session: &Session, bytes: &'a [u8]) -> Want<'a>
     }
     let step = reader.take(bytes);
     match Keyed::of(&step.event) {
-        Some(keyed) => Want::Lane(keyed.key()),
+        Some(keyed) => Want::Lane {
+            key: keyed.key(),
+            gives_number: keyed.gives_number(),
+        },
         None => Want::Alone(need_for(step.taken, &step.event)),
     }
 }
@@ -78,7 +86,7 @@ fn need_for(taken: usize, event: &StreamEvent<'_>) -> Need
         StreamEvent::Key { .. } => Need::Step,
         StreamEvent::KeysEnd => Need::Step,
         StreamEvent::Refused(_) => Need::Step,
-        StreamEvent::Binary => Need::Step,
+        StreamEvent::Foreign => Need::Step,
     }
 }
 

@@ -1,9 +1,10 @@
 -- Lists that the library's lemmas leave out: a test of some element of a mapped list, and the place that a search gave.
-use Rattle.std.proofs.Common.{◌≡◌, ℕ, ◌<◌, ◌≤◌, ◌||◌, ltb, cond, ◌-◌, not, take, drop, Bool, false, List, [], ◌∷◌, ◌++◌, ◌+◌, get_or, length, map, Option, Some, None, refl, sym, ap, ◌∙◌, arith, inl, inr}
-use Rattle.std.specs.List.{list_any, position_or_len, concat}
+use Rattle.std.proofs.Common.{◌≡◌, ℕ, ◌<◌, ◌≤◌, ◌||◌, ltb, cond, ◌-◌, not, take, drop, nat_le, Bool, true, false, List, [], ◌∷◌, ◌++◌, ◌+◌, zero, suc, get_or, length, map, Option, Some, None, refl, sym, ap, ◌∙◌, arith, inl, inr}
+use Rattle.std.specs.List.{list_any, position, position_or_len, concat}
 use Rattle.std.proofs.lemmas.Bool.{cases_Bool}
+use Rattle.std.proofs.lemmas.Bool.Decides.{nat_tests}
 use Rattle.std.proofs.lemmas.Grind.{common_steps}
-use Rattle.std.proofs.lemmas.List.{map-append, take_more, length-map, get_or-map}
+use Rattle.std.proofs.lemmas.List.{length-append, map-append, take_more, length-map, get_or-map}
 use Rattle.std.proofs.lemmas.List.Folds.{concat-append}
 use Rattle.std.proofs.lemmas.List.Sums.{prefix_len-le-length}
 use borrow.Author.Tests.{ltb-false}
@@ -11,6 +12,16 @@ use borrow.Author.Tests.{ltb-false}
 pub list_any-map : {X Y : Type 0} (p : X → Bool) (h : Y → X) (ys : List Y) → list_any p (map h ys) ≡ list_any (λ y. p (h y)) ys
 list_any-map p h [] = refl
 list_any-map p h (y ∷ ys) = ap (λ b. p (h y) || b) (list_any-map p h ys)
+
+front_map : {X Y : Type 0} (p : X → Bool) (h : Y → X) (ys : List Y) → position_or_len p (map h ys) ≡ position_or_len (λ y. p (h y)) ys
+front_map p h [] = refl
+front_map p h (y ∷ ys) = elim (cases_Bool (p (h y))) [
+  | inl found ↦ rw found refl
+  | inr other ↦ rw other (ap (λ n. 1 + n) (front_map p h ys))
+]
+
+pub position-map : {X Y : Type 0} (p : X → Bool) (h : Y → X) (ys : List Y) → position p (map h ys) ≡ position (λ y. p (h y)) ys
+position-map p h ys = rw (front_map p h ys, length-map ys h) refl
 
 -- a search that gave a place gave this one, and one that gave none went to the end
 pub found_at : (r : Option ℕ) (place len n : ℕ) → r ≡ cond (ltb place len) (Some place) None → r ≡ Some n → n ≡ place
@@ -62,3 +73,39 @@ text_more text h xs i d start now new piece less so_far more is =
     let same = length-map xs h in
     let at = get_or-map h xs i d [] less in
     piece_more text (map h xs) i [] start now new piece (omega (arith, same, less)) so_far more (is ∙ ap text (sym at))
+
+fits_or_over : (n most : ℕ) → nat_le n most ≡ true → n ≤ most
+fits_or_over n most fits = grind (arith, nat_tests)
+
+-- what does not fit is longer
+pub not_fitting : (n most : ℕ) → (n ≤ most → false ≡ true) → most < n
+not_fitting n most none = elim (cases_Bool (nat_le n most)) [
+  | inl fits ↦ let never = none (fits_or_over n most fits) in absurd (grind arith)
+  | inr over ↦ grind (arith, nat_tests)
+]
+
+-- the texts of the first things of a list are not longer than those of all
+pub front_within : {A : Type 0} (h : A → List ℕ) (xs : List A) (n : ℕ) → length (concat (map h (take n xs))) ≤ length (concat (map h xs))
+front_within h xs zero = omega arith
+front_within h [] (suc n) = omega arith
+front_within h (x ∷ xs) (suc n) =
+    let rest = front_within h xs n in
+    let front = length-append (h x) (concat (map h (take n xs))) in
+    let whole = length-append (h x) (concat (map h xs)) in
+    omega (arith, rest, front, whole)
+
+-- where a piece does not fit after those before it, all pieces do not
+pub piece_over : {A : Type 0} (most : ℕ) (h : A → List ℕ) (xs : List A) (i : ℕ) (d : A) (start now piece : List ℕ) → i < length xs → now ≡ start ++ concat (map h (take i xs)) → piece ≡ h (get_or xs i d) → most < length now + length piece → most < length start + length (concat (map h xs))
+piece_over most h xs i d start now piece less so_far is over =
+    let more = ap length (piece_more h xs i d start now (now ++ piece) piece less so_far refl is) in
+    let front = front_within h xs (i + 1) in
+    let joined = length-append now piece in
+    let whole = length-append start (concat (map h (take (i + 1) xs))) in
+    omega (arith, more, front, joined, whole, over)
+
+-- the same, if the pieces are texts of other lists
+pub text_over : {A : Type 0} (most : ℕ) (text : List ℕ → List ℕ) (h : A → List ℕ) (xs : List A) (i : ℕ) (d : A) (start now piece : List ℕ) → i < length xs → now ≡ start ++ concat (map text (take i (map h xs))) → piece ≡ text (h (get_or xs i d)) → most < length now + length piece → most < length start + length (concat (map text (map h xs)))
+text_over most text h xs i d start now piece less so_far is over =
+    let same = length-map xs h in
+    let at = get_or-map h xs i d [] less in
+    piece_over most text (map h xs) i [] start now piece (omega (arith, same, less)) so_far (is ∙ ap text (sym at)) over

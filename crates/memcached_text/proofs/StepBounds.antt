@@ -11,8 +11,8 @@ use Rattle.memcached_text.specs.declared.line_refusal.LineRefusal.{LineRefusal}
 use Rattle.memcached_text.specs.declared.verb.MetaCommand.{MetaCommand}
 use Rattle.memcached_text.specs.declared.verb.MetaCommand.TheVariants as metas
 use Rattle.memcached_text.specs.Asked.{Asked, AskGet, AskGetAndTouch, AskStore, AskDelete, AskDelta, AskTouch, AskFlushAll, AskStats, AskVersion, AskVerbosity, AskQuit, AskShutdown, AskMetaNoop, AskMeta}
-use Rattle.memcached_text.specs.Requests.{request_of}
-use Rattle.memcached_text.specs.Steps.{Outcome, TellMore, is_more, is_feed, is_end, without_return, block_step, meta_step, whole_step, long_step, line_by, line_step, key_by, key_step, passing, pass_line, decided, step_of}
+use Rattle.memcached_text.specs.Requests.{request_of, is_http}
+use Rattle.memcached_text.specs.Steps.{Outcome, TellMore, is_more, is_feed, is_end, without_return, block_step, meta_step, whole_step, refused_step, long_step, line_by, line_step, key_by, key_step, passing, pass_line, decided, step_of}
 use Rattle.memcached_text.proofs.StepLaws.{le_true, not_empty, place_some, front_few, passed_at, settled}
 use Rattle.memcached_text.proofs.StepProgress.{something, long_gives, key_or_gives, last_key_gives}
 
@@ -38,6 +38,10 @@ meta_few most past asked metas.Delete len rest none = something none
 meta_few most past asked metas.Arithmetic len rest none = something none
 meta_few most past asked metas.Debug len rest none = something none
 
+refused_few : (most past : ℕ) (http : Bool) (refusal : LineRefusal) (rest : List ℕ) → is_more (refused_step past http refusal).told ≡ true → length rest ≤ most + 1
+refused_few most past true refusal rest none = something none
+refused_few most past false refusal rest none = something none
+
 whole_few : (most past : ℕ) (line rest : List ℕ) (asked : Result Asked LineRefusal) → is_more (whole_step most past line rest asked).told ≡ true → length rest ≤ most + 1
 whole_few most past line rest (Ok (AskGet cas)) none = something none
 whole_few most past line rest (Ok (AskGetAndTouch exptime cas)) none = something none
@@ -53,7 +57,7 @@ whole_few most past line rest (Ok AskQuit) none = something none
 whole_few most past line rest (Ok (AskShutdown graceful)) none = something none
 whole_few most past line rest (Ok AskMetaNoop) none = something none
 whole_few most past line rest (Ok (AskMeta meta)) none = meta_few most past (AskMeta meta) meta.command meta.length rest none
-whole_few most past line rest (Err refusal) none = something none
+whole_few most past line rest (Err refusal) none = refused_few most past (is_http line) refusal rest none
 
 line_by_few : (most : ℕ) (bytes : List ℕ) (place : Option ℕ) → position is_feed (take 2049 bytes) ≡ place → is_more (line_by most bytes place).told ≡ true → length bytes ≤ 2050 + most
 line_by_few most bytes (Some n) is none =

@@ -13,10 +13,10 @@ use Rattle.memcached_text.specs.declared.line_refusal.LineRefusal.{LineRefusal}
 use Rattle.memcached_text.specs.declared.verb.MetaCommand.{MetaCommand}
 use Rattle.memcached_text.specs.declared.verb.MetaCommand.TheVariants as metas
 use Rattle.memcached_text.specs.Asked.{Asked, AskGet, AskGetAndTouch, AskStore, AskDelete, AskDelta, AskTouch, AskFlushAll, AskStats, AskVersion, AskVerbosity, AskQuit, AskShutdown, AskMetaNoop, AskMeta}
-use Rattle.memcached_text.specs.Requests.{request_of}
+use Rattle.memcached_text.specs.Requests.{request_of, is_http}
 use Rattle.memcached_text.specs.Verbs.{verb_of}
 use Rattle.memcached_text.specs.Words.{after_word, after_spaces, from_space, is_key}
-use Rattle.memcached_text.specs.Steps.{Outcome, nothing, is_more, is_feed, is_end, without_return, block_step, meta_step, asked_step, whole_step, long_step, line_by, line_step, last_key, key_or, key_by, key_step, decided}
+use Rattle.memcached_text.specs.Steps.{Outcome, nothing, is_more, is_feed, is_end, without_return, block_step, meta_step, asked_step, whole_step, refused_step, long_step, line_by, line_step, last_key, key_or, key_by, key_step, decided}
 use Rattle.memcached_text.proofs.StepLaws.{not_empty, nothing_given, le_false_lt}
 
 -- what is left after a word is shorter
@@ -109,9 +109,13 @@ asked_takes most past line rest (AskShutdown graceful) some full given = some
 asked_takes most past line rest AskMetaNoop some full given = some
 asked_takes most past line rest (AskMeta meta) some full given = meta_takes most past (AskMeta meta) meta.command meta.length rest some given
 
+refused_takes : (past : ℕ) (http : Bool) (refusal : LineRefusal) → 1 ≤ past → 1 ≤ (refused_step past http refusal).taken
+refused_takes past true refusal some = some
+refused_takes past false refusal some = some
+
 whole_takes : (most past : ℕ) (line rest : List ℕ) (asked : Result Asked LineRefusal) → request_of line ≡ asked → 1 ≤ past → Takes (whole_step most past line rest asked)
 whole_takes most past line rest (Ok asked) is some given = asked_takes most past line rest asked some (asked_some line asked is) given
-whole_takes most past line rest (Err refusal) is some given = some
+whole_takes most past line rest (Err refusal) is some given = refused_takes past (is_http line) refusal some
 
 long_takes : (line : List ℕ) (asked : Result Asked LineRefusal) → 0 < length line → Takes (long_step line asked)
 long_takes line (Ok (AskGet cas)) full given = keys_takes line full
@@ -212,6 +216,10 @@ meta_stays most past asked metas.Delete len rest none = something none
 meta_stays most past asked metas.Arithmetic len rest none = something none
 meta_stays most past asked metas.Debug len rest none = something none
 
+refused_stays : (past : ℕ) (http : Bool) (refusal : LineRefusal) → Stays (refused_step past http refusal) Line
+refused_stays past true refusal none = something none
+refused_stays past false refusal none = something none
+
 whole_stays : (most past : ℕ) (line rest : List ℕ) (asked : Result Asked LineRefusal) → Stays (whole_step most past line rest asked) Line
 whole_stays most past line rest (Ok (AskGet cas)) none = something none
 whole_stays most past line rest (Ok (AskGetAndTouch exptime cas)) none = something none
@@ -227,7 +235,7 @@ whole_stays most past line rest (Ok AskQuit) none = something none
 whole_stays most past line rest (Ok (AskShutdown graceful)) none = something none
 whole_stays most past line rest (Ok AskMetaNoop) none = something none
 whole_stays most past line rest (Ok (AskMeta meta)) none = meta_stays most past (AskMeta meta) meta.command meta.length rest none
-whole_stays most past line rest (Err refusal) none = something none
+whole_stays most past line rest (Err refusal) none = refused_stays past (is_http line) refusal none
 
 pub long_gives : (line : List ℕ) (asked : Result Asked LineRefusal) → is_more (long_step line asked).told ≡ false
 long_gives line (Ok (AskGet cas)) = refl

@@ -14,6 +14,10 @@ step_takes most state bytes given =
     let some = decided_takes most k.state (drop k.count bytes) given in
     omega (arith, some)
 
+-- what is given takes a byte or more
+pub takes : (most : ℕ) (state : ReaderState) (bytes : List ℕ) (o : Outcome) → o ≡ step_of most state bytes → is_more o.told ≡ false → 1 ≤ o.taken
+takes most state bytes o is given = rw is (step_takes most state bytes (rw is at given))
+
 step_some : (most : ℕ) (state : ReaderState) (bytes : List ℕ) → is_more (step_of most state bytes).told ≡ false → 0 < length bytes
 unfolding step_of
 step_some most state bytes given =

@@ -1,5 +1,5 @@
 -- The meta commands that name a key, and their flags.
-use Rattle.std.specs.Prelude.{ℕ, ◌+◌, ◌-◌, ◌^◌, Bool, false, ◌&&◌, ◌||◌, not, List, [], ◌∷◌, ◌++◌, length, drop, ◌==◌, nat_lt, if◌then◌else◌, Option, Some, None, option_and_then, option_map, Result, Ok, Err, codes, slice_index_or}
+use Rattle.std.specs.Prelude.{ℕ, ◌+◌, ◌-◌, ◌^◌, Bool, false, ◌&&◌, ◌||◌, not, List, [], ◌∷◌, ◌++◌, length, drop, ◌==◌, nat_lt, if◌then◌else◌, Option, Some, None, option_and_then, option_map, Result, Ok, Err, codes, slice_index_or, position}
 use Rattle.std.specs.List.{list_any, find}
 use Rattle.memcached_text.specs.declared.exptime.Exptime.{Exptime}
 use Rattle.memcached_text.specs.declared.line_error.LineError.{LineError}
@@ -33,6 +33,20 @@ flag_at letter flags = find (λ flag. letter_of flag == letter) flags
 -- the token of the flag with a letter, and the number or the moment that it writes
 abbrev pub token_at : ℕ → List ℕ → Option (List ℕ)
 token_at letter flags = option_map token_of (flag_at letter (words_of flags))
+
+-- the place of the first flag with a letter
+abbrev pub place_at : ℕ → List (List ℕ) → Option ℕ
+place_at letter flags = position (λ flag. letter_of flag == letter) flags
+
+-- one place is before another
+abbrev pub is_less : Option ℕ → Option ℕ → Bool
+is_less (Some i) (Some j) = nat_lt i j
+is_less (Some i) None = false
+is_less None place = false
+
+-- the flag with one letter stands before that with another; not if one of them is not there
+abbrev pub is_before : ℕ → ℕ → List ℕ → Bool
+is_before first second flags = is_less (place_at first (words_of flags)) (place_at second (words_of flags))
 
 unfoldable pub number_at : ℕ → List ℕ → Option ℕ
 number_at letter flags = option_and_then (number_below (2 ^ 64)) (token_at letter flags)

@@ -1,5 +1,6 @@
 -- What a line asks for.
-use Rattle.std.specs.Prelude.{ℕ, ◌-◌, Bool, true, false, ◌&&◌, not, List, length, Option, Some, None, Result, Ok, Err}
+use Rattle.std.specs.Prelude.{ℕ, ◌-◌, Bool, true, false, ◌&&◌, ◌||◌, not, List, length, take, Option, Some, None, is_some, Result, Ok, Err, codes}
+use Rattle.std.specs.Str.{bytes_eq}
 use Rattle.memcached_text.specs.declared.line_error.LineError.{LineError}
 use Rattle.memcached_text.specs.declared.line_error.LineError.TheVariants.{Unknown}
 use Rattle.memcached_text.specs.declared.line_refusal.LineRefusal.{LineRefusal}
@@ -73,3 +74,17 @@ unfoldable pub request_of : List ℕ → Result Asked LineRefusal
 request_of line =
     let words = words_of line in
     request_by (meta_of (word_at words 0)) (verb_of (word_at words 0)) words line
+
+-- a word names a command
+abbrev pub is_command : List ℕ → Bool
+is_command word = is_some (meta_of word) || is_some (verb_of word)
+
+-- a word begins as the version of HTTP does
+abbrev pub is_version : List ℕ → Bool
+is_version word = bytes_eq (take 5 word) (codes "HTTP/")
+
+-- a line of HTTP: its first word names no command, and its last one is a version
+unfoldable pub is_http : List ℕ → Bool
+is_http line =
+    let words = words_of line in
+    not (is_command (word_at words 0)) && is_version (word_at words (length words - 1))

@@ -12,7 +12,7 @@ use Rattle.memcached_text.specs.declared.verb.MetaCommand.{MetaCommand}
 use Rattle.memcached_text.specs.declared.verb.MetaCommand.TheVariants as metas
 use Rattle.memcached_text.specs.Asked.{Asked, AskGet, AskGetAndTouch, AskStore, AskDelete, AskDelta, AskTouch, AskFlushAll, AskStats, AskVersion, AskVerbosity, AskQuit, AskShutdown, AskMetaNoop, AskMeta, shown}
 use Rattle.memcached_text.specs.Meta.{loud}
-use Rattle.memcached_text.specs.Requests.{request_of}
+use Rattle.memcached_text.specs.Requests.{request_of, is_http}
 use Rattle.memcached_text.specs.Words.{after_word, is_key}
 
 -- what is given, without the borrow of its bytes
@@ -24,7 +24,7 @@ pub data Told : Type 0 where
   TellKey : List ℕ → Option Exptime → Bool → Told
   TellKeysEnd : Told
   TellRefused : LineRefusal → Told
-  TellBinary : Told
+  TellForeign : Told
 
 abbrev pub event_shown : StreamEvent → Told
 event_shown events.More = TellMore
@@ -34,7 +34,7 @@ event_shown (events.TooLarge request) = TellTooLarge (shown request)
 event_shown (events.Key key exptime cas) = TellKey key.now exptime cas
 event_shown events.KeysEnd = TellKeysEnd
 event_shown (events.Refused refusal) = TellRefused refusal
-event_shown events.Binary = TellBinary
+event_shown events.Foreign = TellForeign
 
 -- how many bytes are taken, what they give, and where the reader stands after them
 pub record Outcome : Type 0 where
@@ -97,10 +97,15 @@ asked_step most past line rest (AskShutdown graceful) = plain_step past (AskShut
 asked_step most past line rest AskMetaNoop = plain_step past AskMetaNoop
 asked_step most past line rest (AskMeta meta) = meta_step most past (AskMeta meta) meta.command meta.length rest
 
--- the same, or its refusal, after which what belongs to the line is passed over
+-- a line that is refused: what belongs to it is passed over; after one of HTTP nothing is looked at any more
+abbrev pub refused_step : ℕ → Bool → LineRefusal → Outcome
+refused_step past true refusal = outcome past TellForeign Closed
+refused_step past false refusal = outcome past (TellRefused refusal) (SkipData refusal.skipped)
+
+-- a line that is whole, by what it asks for or why it is refused
 abbrev pub whole_step : ℕ → ℕ → List ℕ → List ℕ → Result Asked LineRefusal → Outcome
 whole_step most past line rest (Ok asked) = asked_step most past line rest asked
-whole_step most past line rest (Err refusal) = outcome past (TellRefused refusal) (SkipData refusal.skipped)
+whole_step most past line rest (Err refusal) = refused_step past (is_http line) refusal
 
 -- a line of more than 2,048 bytes, by what those ask for: it is a request with keys, or too long
 abbrev pub too_long : Outcome
@@ -120,7 +125,7 @@ line_by most bytes None = if nat_le (length bytes) 2048 then nothing Line else l
 unfoldable pub line_step : ℕ → List ℕ → Outcome
 line_step most bytes =
     if length bytes == 0 then nothing Line
-    else (if slice_index_or bytes 0 0 == 128 then outcome 1 TellBinary Closed
+    else (if slice_index_or bytes 0 0 == 128 then outcome 1 TellForeign Closed
     else line_by most bytes (position is_feed (take 2049 bytes)))
 
 -- a key ends before a space or a line feed
@@ -195,7 +200,7 @@ is_more (TellTooLarge asked) = false
 is_more (TellKey key exptime cas) = false
 is_more TellKeysEnd = false
 is_more (TellRefused refusal) = false
-is_more TellBinary = false
+is_more TellForeign = false
 
 -- what is given, as a list: nothing, or one event
 abbrev pub given_list : Told → List Told

@@ -37,4 +37,4 @@ pub use text_answer::{TextAnswer, ValueFound};
 pub use text_request::{DeltaRequest, MetaRequest, StoreRequest, TextRequest};
 pub use verb::{Direction, MetaCommand};
 pub use words::MAX_KEY_LEN;
-pub use writing::append_answer;
+pub use writing::{AnswerBytes, MAX_ANSWER_LEN, append_answer};

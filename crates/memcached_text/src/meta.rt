@@ -2,7 +2,7 @@
 ghost use Rattle.std.specs.Prelude.{◌≡◌, ◌+◌, ◌<◌, ◌≤◌, ◌^◌, ◌&&◌, ◌||◌, not, nat_le, nat_lt, ◌==◌, map, option_map, drop, length, slice_index_or, []};
 ghost use Rattle.std.specs.List.{list_any};
 ghost use Rattle.memcached_text.specs.Words.{after_word, is_key};
-ghost use Rattle.memcached_text.specs.Meta.{letter_of, is_among, has_letter, token_of, number_fault, flag_fault, fault_after, flag_at, token_at, number_at, exptime_at, first_fault, is_mode_outside, mode_fault, flags_fault, fault_for, unless, first_flag, asking_of, keyed_of, set_of, unless_fault, meta_request_of};
+ghost use Rattle.memcached_text.specs.Meta.{letter_of, is_among, has_letter, token_of, number_fault, flag_fault, fault_after, place_at, is_before, flag_at, token_at, number_at, exptime_at, first_fault, is_mode_outside, mode_fault, flags_fault, fault_for, unless, first_flag, asking_of, keyed_of, set_of, unless_fault, meta_request_of};
 ghost use Rattle.memcached_text.specs.Asked.{shown_or_refused};
 
 use crate::exptime::Exptime;
@@ -50,6 +50,13 @@ fn token<'a>(flag: &'a [u8]) -> &'a [u8]
     if flag.is_empty() { flag } else { &flag[1..] }
 }
 
+/// The place of the first flag with a letter, if there is one.
+fn place_of(flags: &[&[u8]], wanted: u8) -> Option<usize>
+    ensures { result ≡ place_at wanted (map (λ f. f.now) flags.now) }
+{
+    flags.iter().position(|flag| letter(flag) == wanted)
+}
+
 /// The flag with a letter, if there is one.
 fn find_flag<'a>(flags: &[&'a [u8]], wanted: u8) -> Option<&'a [u8]>
     ensures { option_map (λ f. f.now) result ≡ flag_at wanted (map (λ f. f.now) flags.now) }
@@ -71,6 +78,18 @@ impl<'a> MetaRequest<'a> {
         match find_flag(&words, letter) {
             Some(flag) => Some(token(flag)),
             None => None,
+        }
+    }
+
+    /// Whether the flag with one letter stands before that with another in the line; not if one of them is not there.
+    pub fn is_before(&self, first: u8, second: u8) -> bool
+        ensures { result ≡ is_before first second self.now.flags.now }
+    {
+        let words = words_in(self.flags);
+        match (place_of(&words, first), place_of(&words, second)) {
+            (Some(one), Some(other)) => one < other,
+            (Some(_), None) => false,
+            (None, _) => false,
         }
     }
 

@@ -1,7 +1,7 @@
 // A line and what it asks for.
 ghost use Rattle.std.specs.Prelude.{◌≡◌, ◌-◌, ◌&&◌, not, map, length, slice_index_or, [], true, false};
 ghost use Rattle.memcached_text.specs.Words.{word_at, is_noreply};
-ghost use Rattle.memcached_text.specs.Requests.{classic_of, request_by, request_of, may_be_quiet, is_unknown, is_last_noreply, or_refusal};
+ghost use Rattle.memcached_text.specs.Requests.{classic_of, request_by, request_of, may_be_quiet, is_unknown, is_last_noreply, or_refusal, is_command, is_version, is_http};
 ghost use Rattle.memcached_text.specs.Asked.{shown_or_fault, shown_or_refused};
 ghost use Rattle.memcached_text.specs.Verbs.{meta_of, verb_of};
 
@@ -118,5 +118,39 @@ fn request_of_words<'a>(words: &[&'a [u8]], line: &'a [u8]) -> Result<TextReques
             Some(verb) => classic_line(verb, words),
             None => Err(LineRefusal::loud(LineError::Unknown)),
         },
+    }
+}
+
+/// Whether a line is HTTP's: its first word names no command, and its last one begins as a version of HTTP.
+#[tactic(auto, unfolding(crate::specs::Requests::is_http))]
+pub(crate) fn is_http(line: &[u8]) -> bool
+    ensures { result ≡ is_http line.now }
+{
+    let words = words_in(line);
+    !is_command(word_at(&words, 0)) && is_version(last_word(&words))
+}
+
+/// Whether a word names a command.
+fn is_command(word: &[u8]) -> bool
+    ensures { result ≡ is_command word.now }
+{
+    named_meta(word).is_some() || named_verb(word).is_some()
+}
+
+/// Whether a word begins as a version of HTTP.
+fn is_version(word: &[u8]) -> bool
+    ensures { result ≡ is_version word.now }
+{
+    word.len() >= 5 && &word[..5] == b"HTTP/".as_slice()
+}
+
+/// The last word, empty if there is none.
+fn last_word<'a>(words: &[&'a [u8]]) -> &'a [u8]
+    ensures { result.now ≡ word_at (map (λ w. w.now) words.now) (length (map (λ w. w.now) words.now) - 1) }
+{
+    if words.is_empty() {
+        &[]
+    } else {
+        words[words.len() - 1]
     }
 }

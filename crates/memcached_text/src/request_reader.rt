@@ -1,16 +1,16 @@
 // Requests from bytes that come in pieces.
-ghost use Rattle.std.specs.Prelude.{◌≡◌, ◌+◌, ◌-◌, ◌<◌, ◌≤◌, ◌++◌, ◌&&◌, ◌||◌, not, nat_lt, nat_le, ◌==◌, List, ℕ, length, take, drop, position, slice_index_or, IfSome, Some, None};
+ghost use Rattle.std.specs.Prelude.{◌≡◌, ◌+◌, ◌-◌, ◌<◌, ◌≤◌, ◌++◌, ◌&&◌, ◌||◌, not, false, nat_lt, nat_le, ◌==◌, List, ℕ, length, take, drop, position, slice_index_or, IfSome, Some, None};
 ghost use Rattle.std.specs.List.{position_or_len};
 ghost use Rattle.memcached_text.specs.Asked.{shown, shown_or_refused};
 ghost use Rattle.memcached_text.specs.Requests.{request_of};
 ghost use Rattle.memcached_text.specs.Words.{after_word, is_key};
-ghost use Rattle.memcached_text.specs.Steps.{Outcome, outcome, nothing, is_feed, is_end, without_return, block_step, keys_step, meta_step, asked_step, whole_step, long_step, line_by, line_step, key_or, last_key, key_by, key_step, too_long, passing, decided, step_of, events_of, given_list, event_shown, TellMore, TellRequest, TellRefused};
+ghost use Rattle.memcached_text.specs.Steps.{Outcome, outcome, nothing, is_feed, is_end, without_return, block_step, keys_step, meta_step, asked_step, whole_step, refused_step, long_step, line_by, line_step, key_or, last_key, key_by, key_step, too_long, passing, decided, step_of, events_of, given_list, is_more, event_shown, TellMore, TellRequest, TellRefused};
 ghost use Rattle.memcached_text.specs.StepsShown.{outcome_shown, passing_shown};
 
 use crate::exptime::Exptime;
 use crate::line_error::LineError;
 use crate::line_refusal::LineRefusal;
-use crate::parsing::parse;
+use crate::parsing::{is_http, parse};
 use crate::reader_state::ReaderState;
 use crate::stream_event::{StreamEvent, StreamStep};
 use crate::text_request::TextRequest;
@@ -247,12 +247,26 @@ fn whole_given<'a>(most: u32, bytes: &'a [u8], at: usize) -> Given<'a>
     let line = without_return(&bytes[..at]);
     match parse(line) {
         Ok(request) => request_given(most, at + 1, line, &bytes[at + 1..], request),
-        Err(refusal) => refused_given(
-            at + 1,
-            refusal,
-            ReaderState::SkipData(u64::from(refusal.skipped)),
-        ),
+        Err(refusal) => line_refused(at + 1, is_http(line), refusal),
     }
+}
+
+/// A line of so many bytes that is refused, by whether it is HTTP's.
+fn line_refused<'a>(past: usize, is_http: bool, refusal: LineRefusal) -> Given<'a>
+    ensures { outcome_shown result ≡ refused_step past is_http refusal }
+{
+    if is_http {
+        return Given {
+            taken: past,
+            event: StreamEvent::Foreign,
+            state: ReaderState::Closed,
+        };
+    }
+    refused_given(
+        past,
+        refusal,
+        ReaderState::SkipData(u64::from(refusal.skipped)),
+    )
 }
 
 /// The first 2,048 bytes of a longer line.
@@ -300,7 +314,7 @@ fn line_given<'a>(most: u32, bytes: &'a [u8]) -> Given<'a>
     if bytes[0] == BINARY {
         return Given {
             taken: 1,
-            event: StreamEvent::Binary,
+            event: StreamEvent::Foreign,
             state: ReaderState::Closed,
         };
     }
@@ -493,6 +507,9 @@ impl RequestReader {
         ensures exact { outcome result.taken (event_shown result.event) self.new.state ≡ step_of self.old.max_data_len self.old.state bytes.now }
         ensures limit { self.new.max_data_len ≡ self.old.max_data_len }
         ensures within { result.taken ≤ length bytes.now }
+
+        // What is given takes a byte or more: so a loop over steps ends.
+        ensures some { is_more (event_shown result.event) ≡ false → 1 ≤ result.taken }
 
         // If nothing is whole, few bytes are left untaken: a line of 2,048 bytes, a data block, and their ends but for one byte.
         ensures few { event_shown result.event ≡ TellMore → length bytes.now ≤ result.taken + (2050 + self.old.max_data_len) }

@@ -28,8 +28,8 @@ pub enum StreamEvent<'a> {
     KeysEnd,
     /// A line is refused. After `LineTooLong` the connection is to be closed.
     Refused(LineRefusal),
-    /// The first byte is that of memcached's binary protocol. The connection is to be closed.
-    Binary,
+    /// The first byte is that of memcached's binary protocol, or a line is HTTP's. Nothing is answered, and the connection is to be closed.
+    Foreign,
 }
 
 /// What a reader of requests gives, and how many of the bytes that were fed it took.

@@ -1,34 +1,43 @@
 // Answers to bytes.
-ghost use Rattle.std.specs.Prelude.{◌≡◌, ◌++◌, ◌∷◌, [], OnOk, OnErr, map, length, codes, decimal, take, vec_len, List, ℕ};
+ghost use Rattle.std.specs.Prelude.{◌≡◌, ◌+◌, ◌<◌, ◌++◌, ◌∷◌, [], OnOk, OnErr, map, length, codes, decimal, take, List, ℕ};
 ghost use Rattle.std.specs.List.{concat};
+ghost use Rattle.arrayvec.specs.ArrayVec.{array_vec_len};
 ghost use Rattle.memcached_text.specs.Answers.{value_text, number_text, ttl_text, hit_text, said, flag_text, flags_text, marks_text, status_text, block_text, meta_text, line_text, answer_text};
 
 use crate::meta::letter;
 use crate::meta_answer::{MetaAnswer, MetaFields, MetaMarks, MetaStatus, Ttl};
 use crate::text_answer::{TextAnswer, ValueFound};
 use crate::words::words_in;
+use arrayvec::{ArrayVec, CapacityError};
 use itoa::Buffer;
-use std::alloc::AllocError;
 
-/// Appends pieces of bytes. If memory is refused, nothing is appended.
-fn append_all(out: &mut Vec<u8>, pieces: &[&[u8]]) -> Result<(), AllocError>
+/// The most bytes that `AnswerBytes` holds.
+pub const MAX_ANSWER_LEN: usize = 4096;
+
+/// Room for bytes of answers. It is part of its owner: no memory is asked for it.
+pub type AnswerBytes = ArrayVec<u8, MAX_ANSWER_LEN>;
+
+/// Appends pieces of bytes. If they do not fit, nothing is appended.
+fn append_all(out: &mut AnswerBytes, pieces: &[&[u8]]) -> Result<(), CapacityError>
     ensures ok { OnOk result (out.new.items ≡ out.old.items ++ concat (map (λ p. p.now) pieces.now)) }
     ensures err { OnErr result (out.new.items ≡ out.old.items) }
+    ensures full { OnErr result (4096 < array_vec_len out.old + length (concat (map (λ p. p.now) pieces.now))) }
 {
     let start = out.len();
     for piece in pieces {
-        let Ok(()) = out.extend_from_slice(piece) else {
+        let Ok(()) = out.try_extend_from_slice(piece) else {
             out.truncate(start);
-            return Err(AllocError);
+            return Err(CapacityError::new(()));
         };
     }
     Ok(())
 }
 
 /// Appends a value that was found, with its data block.
-fn append_value(out: &mut Vec<u8>, found: &ValueFound<'_>) -> Result<(), AllocError>
+fn append_value(out: &mut AnswerBytes, found: &ValueFound<'_>) -> Result<(), CapacityError>
     ensures ok { OnOk result (out.new.items ≡ out.old.items ++ value_text found.now.key.now found.now.flags found.now.cas found.now.data.now) }
     ensures err { OnErr result (out.new.items ≡ out.old.items) }
+    ensures full { OnErr result (4096 < array_vec_len out.old + length (value_text found.now.key.now found.now.flags found.now.cas found.now.data.now)) }
 {
     let mut flags_digits = Buffer::new();
     let flags = flags_digits.format(found.flags).as_bytes();
@@ -57,12 +66,13 @@ fn append_value(out: &mut Vec<u8>, found: &ValueFound<'_>) -> Result<(), AllocEr
 
 /// Appends a letter with a number, if there is one.
 fn append_number(
-    out: &mut Vec<u8>,
+    out: &mut AnswerBytes,
     letter_text: &[u8],
     number: Option<u64>,
-) -> Result<(), AllocError>
+) -> Result<(), CapacityError>
     ensures ok { OnOk result (out.new.items ≡ out.old.items ++ number_text letter_text.now number) }
     ensures err { OnErr result (out.new.items ≡ out.old.items) }
+    ensures full { OnErr result (4096 < array_vec_len out.old + length (number_text letter_text.now number)) }
 {
     match number {
         None => Ok(()),
@@ -74,9 +84,10 @@ fn append_number(
 }
 
 /// Appends how long an item lives.
-fn append_ttl(out: &mut Vec<u8>, ttl: Option<Ttl>) -> Result<(), AllocError>
+fn append_ttl(out: &mut AnswerBytes, ttl: Option<Ttl>) -> Result<(), CapacityError>
     ensures ok { OnOk result (out.new.items ≡ out.old.items ++ ttl_text ttl) }
     ensures err { OnErr result (out.new.items ≡ out.old.items) }
+    ensures full { OnErr result (4096 < array_vec_len out.old + length (ttl_text ttl)) }
 {
     match ttl {
         None => Ok(()),
@@ -86,9 +97,10 @@ fn append_ttl(out: &mut Vec<u8>, ttl: Option<Ttl>) -> Result<(), AllocError>
 }
 
 /// Appends whether an item was hit before.
-fn append_hit(out: &mut Vec<u8>, was_hit: Option<bool>) -> Result<(), AllocError>
+fn append_hit(out: &mut AnswerBytes, was_hit: Option<bool>) -> Result<(), CapacityError>
     ensures ok { OnOk result (out.new.items ≡ out.old.items ++ hit_text was_hit) }
     ensures err { OnErr result (out.new.items ≡ out.old.items) }
+    ensures full { OnErr result (4096 < array_vec_len out.old + length (hit_text was_hit)) }
 {
     match was_hit {
         None => Ok(()),
@@ -116,9 +128,14 @@ fn wide(number: Option<u32>) -> Option<u64>
 
 /// Appends what a flag of the request asks to be returned.
 #[tactic(auto, unfolding(crate::specs::Answers::flag_text))]
-fn append_flag(out: &mut Vec<u8>, fields: &MetaFields<'_>, flag: &[u8]) -> Result<(), AllocError>
+fn append_flag(
+    out: &mut AnswerBytes,
+    fields: &MetaFields<'_>,
+    flag: &[u8],
+) -> Result<(), CapacityError>
     ensures ok { OnOk result (out.new.items ≡ out.old.items ++ flag_text fields.now flag.now) }
     ensures err { OnErr result (out.new.items ≡ out.old.items) }
+    ensures full { OnErr result (4096 < array_vec_len out.old + length (flag_text fields.now flag.now)) }
 {
     let letter = letter(flag);
     if letter == b'k' {
@@ -142,29 +159,31 @@ fn append_flag(out: &mut Vec<u8>, fields: &MetaFields<'_>, flag: &[u8]) -> Resul
     }
 }
 
-/// Appends what these flags ask to be returned. If memory is refused, nothing is appended.
+/// Appends what these flags ask to be returned. If they do not fit, nothing is appended.
 fn append_flags(
-    out: &mut Vec<u8>,
+    out: &mut AnswerBytes,
     fields: &MetaFields<'_>,
     flags: &[&[u8]],
-) -> Result<(), AllocError>
+) -> Result<(), CapacityError>
     ensures ok { OnOk result (out.new.items ≡ out.old.items ++ concat (map (flag_text fields.now) (map (λ f. f.now) flags.now))) }
     ensures err { OnErr result (out.new.items ≡ out.old.items) }
+    ensures full { OnErr result (4096 < array_vec_len out.old + length (concat (map (flag_text fields.now) (map (λ f. f.now) flags.now)))) }
 {
     let start = out.len();
     for flag in flags {
         let Ok(()) = append_flag(out, fields, flag) else {
             out.truncate(start);
-            return Err(AllocError);
+            return Err(CapacityError::new(()));
         };
     }
     Ok(())
 }
 
 /// Appends how a command went.
-fn append_status(out: &mut Vec<u8>, status: &MetaStatus<'_>) -> Result<(), AllocError>
+fn append_status(out: &mut AnswerBytes, status: &MetaStatus<'_>) -> Result<(), CapacityError>
     ensures ok { OnOk result (out.new.items ≡ out.old.items ++ status_text status.now) }
     ensures err { OnErr result (out.new.items ≡ out.old.items) }
+    ensures full { OnErr result (4096 < array_vec_len out.old + length (status_text status.now)) }
 {
     match status {
         MetaStatus::Header => append_all(out, &[b"HD"]),
@@ -177,9 +196,10 @@ fn append_status(out: &mut Vec<u8>, status: &MetaStatus<'_>) -> Result<(), Alloc
 }
 
 /// Appends what is said unasked, and the line's end.
-fn append_marks(out: &mut Vec<u8>, marks: &MetaMarks) -> Result<(), AllocError>
+fn append_marks(out: &mut AnswerBytes, marks: &MetaMarks) -> Result<(), CapacityError>
     ensures ok { OnOk result (out.new.items ≡ out.old.items ++ marks_text marks.now ++ codes "\r\n") }
     ensures err { OnErr result (out.new.items ≡ out.old.items) }
+    ensures full { OnErr result (4096 < array_vec_len out.old + length (marks_text marks.now ++ codes "\r\n")) }
 {
     append_all(
         out,
@@ -193,9 +213,10 @@ fn append_marks(out: &mut Vec<u8>, marks: &MetaMarks) -> Result<(), AllocError>
 }
 
 /// Appends the data block, if there is one.
-fn append_block(out: &mut Vec<u8>, status: &MetaStatus<'_>) -> Result<(), AllocError>
+fn append_block(out: &mut AnswerBytes, status: &MetaStatus<'_>) -> Result<(), CapacityError>
     ensures ok { OnOk result (out.new.items ≡ out.old.items ++ block_text status.now) }
     ensures err { OnErr result (out.new.items ≡ out.old.items) }
+    ensures full { OnErr result (4096 < array_vec_len out.old + length (block_text status.now)) }
 {
     match status {
         MetaStatus::Value(block) => append_all(out, &[block, b"\r\n"]),
@@ -207,10 +228,11 @@ fn append_block(out: &mut Vec<u8>, status: &MetaStatus<'_>) -> Result<(), AllocE
     }
 }
 
-/// Appends the answer to a meta command. If memory is refused, what was there stays at the front.
-fn append_parts(out: &mut Vec<u8>, answer: &MetaAnswer<'_>) -> Result<(), AllocError>
+/// Appends the answer to a meta command. If it does not fit, what was there stays at the front.
+fn append_parts(out: &mut AnswerBytes, answer: &MetaAnswer<'_>) -> Result<(), CapacityError>
     ensures ok { OnOk result (out.new.items ≡ out.old.items ++ meta_text answer.now) }
-    ensures err { OnErr result (take (vec_len out.old) out.new.items ≡ out.old.items) }
+    ensures err { OnErr result (take (array_vec_len out.old) out.new.items ≡ out.old.items) }
+    ensures full { OnErr result (4096 < array_vec_len out.old + length (meta_text answer.now)) }
 {
     let flags = words_in(answer.flags);
     append_status(out, &answer.status)?;
@@ -220,10 +242,11 @@ fn append_parts(out: &mut Vec<u8>, answer: &MetaAnswer<'_>) -> Result<(), AllocE
     Ok(())
 }
 
-/// Appends the answer to a meta command. If memory is refused, nothing is appended.
-fn append_meta(out: &mut Vec<u8>, answer: &MetaAnswer<'_>) -> Result<(), AllocError>
+/// Appends the answer to a meta command. If it does not fit, nothing is appended.
+fn append_meta(out: &mut AnswerBytes, answer: &MetaAnswer<'_>) -> Result<(), CapacityError>
     ensures ok { OnOk result (out.new.items ≡ out.old.items ++ meta_text answer.now) }
     ensures err { OnErr result (out.new.items ≡ out.old.items) }
+    ensures full { OnErr result (4096 < array_vec_len out.old + length (meta_text answer.now)) }
 {
     let start = out.len();
     match append_parts(out, answer) {
@@ -236,17 +259,19 @@ fn append_meta(out: &mut Vec<u8>, answer: &MetaAnswer<'_>) -> Result<(), AllocEr
 }
 
 /// Appends a line of fixed words.
-fn append_line(out: &mut Vec<u8>, words: &[u8]) -> Result<(), AllocError>
+fn append_line(out: &mut AnswerBytes, words: &[u8]) -> Result<(), CapacityError>
     ensures ok { OnOk result (out.new.items ≡ out.old.items ++ line_text words.now) }
     ensures err { OnErr result (out.new.items ≡ out.old.items) }
+    ensures full { OnErr result (4096 < array_vec_len out.old + length (line_text words.now)) }
 {
     append_all(out, &[words, b"\r\n"])
 }
 
-/// Appends the bytes of an answer. If memory is refused, nothing is appended.
-pub fn append_answer(out: &mut Vec<u8>, answer: &TextAnswer<'_>) -> Result<(), AllocError>
+/// Appends the bytes of an answer. If they do not fit into what is left of the room, nothing is appended.
+pub fn append_answer(out: &mut AnswerBytes, answer: &TextAnswer<'_>) -> Result<(), CapacityError>
     ensures ok { OnOk result (out.new.items ≡ out.old.items ++ answer_text answer.now) }
     ensures err { OnErr result (out.new.items ≡ out.old.items) }
+    ensures full { OnErr result (4096 < array_vec_len out.old + length (answer_text answer.now)) }
 {
     match answer {
         TextAnswer::Value(found) => append_value(out, found),

@@ -1,14 +1,14 @@
 // What is answered to lines that are refused.
-use memcached_text::{TextAnswer, append_answer, parse};
-use std::alloc::{AllocError, Global};
+use arrayvec::CapacityError;
+use memcached_text::{AnswerBytes, TextAnswer, append_answer, parse};
 use std::test::Fail;
 
 /// What is answered to each of these lines, if it is refused.
-fn answered(alloc: Global, lines: &[u8]) -> Result<Vec<u8>, AllocError> {
-    let mut out = Vec::new(alloc);
+fn answered(lines: &[u8]) -> Result<AnswerBytes, CapacityError> {
+    let mut out = AnswerBytes::new();
     for line in lines.split(|b| *b == b'\n') {
         match parse(line) {
-            Ok(_) => out.extend_from_slice(b"taken\r\n")?,
+            Ok(_) => out.try_extend_from_slice(b"taken\r\n")?,
             Err(refusal) => append_answer(&mut out, &TextAnswer::Refused(refusal.fault))?,
         }
     }
@@ -21,7 +21,7 @@ fn commands_that_are_not_known_are_errors(rt: HostRuntime) -> Result<(), Fail> {
         b"\nwatch\nlru_crawler enable\nSET k 0 0 1\nget\ngat 1\nset k 0 0\nset k 0 0 1 noreply x\nmg\nverbosity noreply";
     let out =
         b"ERROR\r\nERROR\r\nERROR\r\nERROR\r\nERROR\r\nERROR\r\nERROR\r\nERROR\r\nERROR\r\nERROR\r\n";
-    assert_eq!(rt; answered(rt.alloc(), lines)?.as_slice(), out.as_slice());
+    assert_eq!(rt; answered(lines)?.as_slice(), out.as_slice());
     Ok(())
 }
 
@@ -38,7 +38,7 @@ fn numbers_that_are_none_are_told_by_their_command(rt: HostRuntime) -> Result<()
         CLIENT_ERROR invalid numeric delta argument\r\n\
         CLIENT_ERROR bad command line format.  Usage: delete <key> [noreply]\r\n\
         CLIENT_ERROR invalid shutdown mode\r\n";
-    assert_eq!(rt; answered(rt.alloc(), lines)?.as_slice(), out.as_slice());
+    assert_eq!(rt; answered(lines)?.as_slice(), out.as_slice());
     Ok(())
 }
 
@@ -58,7 +58,7 @@ fn meta_flags_are_judged_in_their_order(rt: HostRuntime) -> Result<(), Fail> {
         CLIENT_ERROR invalid numeric initial value\r\n\
         CLIENT_ERROR invalid numeric delta value\r\n\
         CLIENT_ERROR bad command line format\r\n";
-    assert_eq!(rt; answered(rt.alloc(), lines)?.as_slice(), out.as_slice());
+    assert_eq!(rt; answered(lines)?.as_slice(), out.as_slice());
     Ok(())
 }
 
@@ -66,12 +66,9 @@ fn meta_flags_are_judged_in_their_order(rt: HostRuntime) -> Result<(), Fail> {
 fn a_key_has_at_most_250_bytes(rt: HostRuntime) -> Result<(), Fail> {
     let mut line = [b'k'; 258];
     line[..7].copy_from_slice(b"delete ");
+    assert_eq!(rt; answered(&line[..257])?.as_slice(), b"taken\r\n".as_slice());
     assert_eq!(rt;
-        answered(rt.alloc(), &line[..257])?.as_slice(),
-        b"taken\r\n".as_slice()
-    );
-    assert_eq!(rt;
-        answered(rt.alloc(), &line)?.as_slice(),
+        answered(&line)?.as_slice(),
         b"CLIENT_ERROR bad command line format\r\n".as_slice()
     );
     Ok(())

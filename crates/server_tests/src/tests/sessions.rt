@@ -176,7 +176,7 @@ const META: &[u8] =
     b"mg a\r\nms a 3 T0 F5 c\r\none\r\nmg a v f s t k O77 c\r\nms a 2 ME\r\nxx\r\nms a 2 MA\r\n!!\r\nmg a v\r\nms a 1 C1 c k\r\nx\r\nmd a C1\r\nmd a I T30\r\nmg a t v\r\nmg a\r\nms a 1 q\r\nx\r\nmd a q\r\nmd a q k\r\nmg a q\r\nmn\r\n";
 
 const META_ANSWERS: &[u8] =
-    b"EN\r\nHD c2\r\nVA 3 f5 s3 t-1 ka O77 c2\r\none\r\nNS\r\nHD\r\nVA 5\r\none!!\r\nEX c0 ka\r\nEX\r\nHD\r\nVA 5 t30 X W\r\none!!\r\nHD Z X\r\nNF ka\r\nMN\r\n";
+    b"EN\r\nHD c1\r\nVA 3 f5 s3 t-1 ka O77 c1\r\none\r\nNS\r\nHD\r\nVA 5\r\none!!\r\nEX c0 ka\r\nEX\r\nHD\r\nVA 5 t30 X W\r\none!!\r\nHD Z X\r\nNF ka\r\nMN\r\n";
 
 #[test]
 fn meta_commands_are_answered(rt: HostRuntime) -> Result<(), Fail> {
@@ -188,7 +188,7 @@ fn meta_commands_are_answered(rt: HostRuntime) -> Result<(), Fail> {
 }
 
 const COUNTS: &[u8] =
-    b"ma n\r\nma n N0 J13 v\r\nma n D5 MD v t\r\nma n q\r\nma n c T9 t\r\nmg n v\r\nmg z N30 v t\r\nmg z v R9\r\nms z 1 C7\r\ny\r\nmg z v\r\nma z\r\n";
+    b"ma n\r\nma n N0 J13 v\r\nma n D5 MD v t\r\nma n q\r\nma n c T9 t\r\nmg n v\r\nmg z N30 v t\r\nmg z v R9\r\nms z 1 C6\r\ny\r\nmg z v\r\nma z\r\n";
 
 const COUNTS_ANSWERS: &[u8] =
     b"NF\r\nVA 2\r\n13\r\nVA 1 t-1\r\n8\r\nHD c5 t9\r\nVA 2\r\n10\r\nVA 0 t30 W\r\n\r\nVA 0 Z\r\n\r\nHD\r\nVA 1\r\ny\r\nCLIENT_ERROR cannot increment or decrement non-numeric value\r\n";
@@ -210,5 +210,19 @@ fn what_is_not_served_is_refused_by_name(rt: HostRuntime) -> Result<(), Fail> {
             b"CLIENT_ERROR me is not served\r\nCLIENT_ERROR flag b is not served\r\nCLIENT_ERROR flag b is not served\r\nCLIENT_ERROR flag h is not served\r\nCLIENT_ERROR flag l is not served\r\nMN\r\n",
         )?
     );
+    Ok(())
+}
+
+const ORDERS: &[u8] =
+    b"mg y N30 T60 t v\r\nmg z T60 N30 t v\r\nms a 1 T100\r\nx\r\nmg a R50 T10 t\r\nms b 1 T100\r\nx\r\nmg b T10 R50 t\r\nmg b t T90\r\nmg b t\r\nms n 1 T100\r\n1\r\nma n t T10 v\r\nma n T20 t\r\nGET / HTTP/1.1\r\nmn\r\n";
+
+const ORDERS_ANSWERS: &[u8] =
+    b"VA 0 t60 W\r\n\r\nVA 0 t30 W\r\n\r\nHD\r\nHD t10\r\nHD\r\nHD t10 W\r\nHD t10 Z\r\nHD t90 Z\r\nHD\r\nVA 1 t100\r\n2\r\nHD t20\r\n";
+
+#[test]
+fn meta_flags_count_in_their_order_and_http_is_closed(rt: HostRuntime) -> Result<(), Fail> {
+    let client = answers_of(rt.alloc(), ORDERS, ORDERS.len(), false)?;
+    assert_eq!(rt; client.answers.as_slice(), ORDERS_ANSWERS);
+    assert!(rt; client.is_closed);
     Ok(())
 }

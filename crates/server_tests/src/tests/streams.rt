@@ -101,8 +101,22 @@ fn a_stream_gives_the_same_however_it_is_cut(rt: HostRuntime) -> Result<(), Fail
 
 #[test]
 fn the_binary_protocol_has_an_event_of_its_own(rt: HostRuntime) -> Result<(), Fail> {
-    let told = "Request(MetaNoop)\nBinary\n";
+    let told = "Request(MetaNoop)\nForeign\n";
     assert!(rt; has_events(rt.alloc(), b"mn\r\n\x80\x0b\x00\nget a\r\n", 9, told)?);
+    Ok(())
+}
+
+#[test]
+fn a_line_of_http_ends_the_stream(rt: HostRuntime) -> Result<(), Fail> {
+    let stream = b"PUT / HTTP\r\nmn HTTP/1.1\r\nget HTTP/1.1\r\nDELETE / HTTP/1.0\r\nmn\r\n";
+    let told = "\
+        Refused(LineRefusal { fault: Unknown, noreply: false, skipped: 0 })\n\
+        Request(MetaNoop)\n\
+        Request(Get { with_cas: false })\n\
+        Key { key: [72, 84, 84, 80, 47, 49, 46, 49], exptime: None, with_cas: false }\n\
+        KeysEnd\n\
+        Foreign\n";
+    assert!(rt; has_events(rt.alloc(), stream, 9, told)?);
     Ok(())
 }
 

@@ -37,7 +37,7 @@ impl Client {
         }
     }
 
-    /// Takes all steps that bytes give; how many of them are taken. Each step with a lane has a cas number of its own, from 1 on.
+    /// Takes all steps that bytes give; how many of them are taken. Each step that may give one has a cas number of its own, from 1 on.
     pub fn feed(
         &mut self,
         alloc: Global,
@@ -63,8 +63,8 @@ impl Client {
     ) -> Result<Option<usize>, AllocError> {
         let mut room = [0; 4096];
         let done = match what_is_wanted(&self.session, bytes) {
-            Want::Lane(_) => {
-                self.turn.cas = self.turn.cas.saturating_add(1);
+            Want::Lane { gives_number, .. } => {
+                self.turn.cas = self.turn.cas.saturating_add(u64::from(gives_number));
                 let mut found = ValueBuffer::empty();
                 lane_step(
                     lane,
@@ -82,7 +82,7 @@ impl Client {
                 self.is_closed = true;
                 return Ok(None);
             }
-            Want::Alone(_) => step(alloc, &mut self.session, &self.turn, bytes, &mut room),
+            Want::Alone(_) => step(&mut self.session, &self.turn, bytes, &mut room),
         };
         self.answers.extend_from_slice(&room[..done.answered])?;
         Ok(Some(done.taken))

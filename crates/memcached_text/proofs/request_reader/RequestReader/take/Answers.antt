@@ -4,7 +4,7 @@ use Rattle.memcached_text.specs.Steps.{outcome, event_shown, decided}
 use Rattle.memcached_text.specs.StepsShown.{outcome_shown, passing_shown}
 use Rattle.memcached_text.proofs.Lists.{rest_dropped}
 use Rattle.memcached_text.proofs.StepBounds.{step_few}
-use Rattle.memcached_text.proofs.Streams.{steady, step_made}
+use Rattle.memcached_text.proofs.Streams.{steady, step_made, takes}
 use Rattle.memcached_text.proofs.request_reader.RequestReader.take.Goals as goal
 
 pub returns-clause-steady : goal.returns-clause-steady
@@ -31,3 +31,14 @@ returns-clause-few c = λ none.
     step_few most c.args.self.now.state bytes (outcome (passed.count + given.taken) (event_shown given.event) given.state)
     (step_made most c.args.self.now.state bytes (passing_shown passed) (outcome_shown given) c.pass-passed.ensures.exact (c.decide-given.ensures.exact ∙ ap (decided most passed.state) rest))
     none
+
+pub returns-clause-some : goal.returns-clause-some
+returns-clause-some c = λ some.
+    let most = c.args.self.now.max_data_len in
+    let bytes = c.args.bytes.now in
+    let passed = c.pass-passed.result in
+    let given = c.decide-given.result in
+    let rest = rest_dropped bytes passed.count in
+    takes most c.args.self.now.state bytes (outcome (passed.count + given.taken) (event_shown given.event) given.state)
+    (step_made most c.args.self.now.state bytes (passing_shown passed) (outcome_shown given) c.pass-passed.ensures.exact (c.decide-given.ensures.exact ∙ ap (decided most passed.state) rest))
+    some
