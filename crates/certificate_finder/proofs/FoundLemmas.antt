@@ -9,11 +9,12 @@ use Rattle.certificate_finder.specs.declared.crossing.Crossing.{Crossing}
 use Rattle.certificate_finder.specs.declared.found.Found.TheVariants.{Rejected}
 use Rattle.certificate_finder.specs.declared.numbered_call.NumberedCall.{NumberedCall}
 use Rattle.certificate_finder.specs.declared.zone.Zone.{Zone}
-use Rattle.certificate_finder.specs.Finding.{IsFound}
+use Rattle.certificate_finder.specs.Finding.{AreForward, IsFound}
 use Rattle.certificate_finder.specs.Owning.{AreOwners, AreSureOwners}
 use Rattle.certificate_finder.specs.Steps.{AreSteps}
 use Rattle.certificate_finder.specs.Zones.{AreCrossing, AreZones, crossed_by}
 use Rattle.certificate_finder.proofs.EndLemmas.{found_at}
+use Rattle.certificate_finder.proofs.FaultLemmas.{some_read}
 use Rattle.certificate_finder.proofs.FindLemmas.{are_crossed}
 use Rattle.certificate_finder.proofs.Listing.{all_from_at}
 
@@ -39,10 +40,11 @@ sure_owners_in steps owners unsure own = all_from_at (λ owner. owner < length s
     ])
 
 -- two zones that are crossed are a reason
-pub found_crossed : (history : List Call) (steps : List NumberedCall) (owners unsure : List ℕ) (zones : List Zone) (crossing : Crossing) → AreSteps history steps → AreSureOwners steps (length steps) owners unsure → AreZones steps owners zones → AreCrossing zones crossing → IsFound history (Rejected (crossed_by crossing))
-found_crossed history steps owners unsure zones crossing are own zs crossed = record {
+pub found_crossed : (history : List Call) (steps : List NumberedCall) (owners unsure : List ℕ) (zones : List Zone) (crossing : Crossing) → AreSteps history steps → AreSureOwners steps (length steps) owners unsure → AreZones steps owners zones → AreCrossing zones crossing → AreForward history → IsFound history (Rejected (crossed_by crossing))
+found_crossed history steps owners unsure zones crossing are own zs crossed forward = record {
   accepted = tt;
   rejected = are_crossed history steps are owners unsure own zones zs crossing.one crossing.other crossed;
+  first = (forward, some_read history steps are owners unsure own);
   undecided = tt;
 }
 
@@ -54,10 +56,14 @@ some_left unsure lent same some none =
     let h : false ≡ true = some ∙ e in
     cc
 
-pub none_left : (unsure lent : List ℕ) → lent ≡ unsure → true ≡ eqb (length lent) 0 → unsure ≡ []
-none_left unsure lent same none =
+-- a list is empty if a test says so
+pub no_items : {X : Type 0} (items lent : List X) → lent ≡ items → true ≡ eqb (length lent) 0 → length items ≡ 0
+no_items items lent same none =
     let l : length lent ≡ 0 = grind (arith, nat_tests) in
-    sym same ∙ nil_from_length lent l
+    sym (ap length same) ∙ l
+
+pub none_left : (items lent : List ℕ) → lent ≡ items → true ≡ eqb (length lent) 0 → items ≡ []
+none_left items lent same none = nil_from_length items (no_items items lent same none)
 
 -- sure owners are owners, if there is one for each hit
 pub owners_of_sure : (steps : List NumberedCall) (owners : List ℕ) → AreSureOwners steps (length steps) owners [] → AreOwners steps owners

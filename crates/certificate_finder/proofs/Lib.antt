@@ -33,3 +33,4 @@ mod InTurnLemmas
 mod DecidingLemmas
 mod MixLemmas
 mod TryingLemmas
+mod FaultLemmas

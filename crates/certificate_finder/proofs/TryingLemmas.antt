@@ -94,7 +94,7 @@ module _ (rule : Rule) (R S : ℕ → ℕ → Type 0) (t u : ℕ → CallSpan) (
 module _ (history : List Call) (steps : List NumberedCall) (are : AreSteps history steps) where
   -- ---- times and puts of a history
 
-  times_same : (p : ℕ) → times_in steps p ≡ times_at history p
+  pub times_same : (p : ℕ) → times_in steps p ≡ times_at history p
   times_same p =
       let count = are.count in
       elim (cases_lt p (length steps)) [

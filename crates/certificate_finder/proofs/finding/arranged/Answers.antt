@@ -14,7 +14,7 @@ pub zones_of-requires-clause-within : goal.zones_of-requires-clause-within
 zones_of-requires-clause-within c = subst (λ os. All (λ owner. owner < length c.args.steps.now) os) (sym c.as_slice-owned.ensures.value) (sure_owners_in c.args.steps.now c.args.owners.owners.items c.args.owners.unsure.items c.requires.owners)
 
 pub returns-in-Some : goal.returns-in-Some
-returns-in-Some c = λ history are intervals. subst (λ w. IsFound history (Rejected w)) (sym c.witness.ensures) (found_crossed history c.args.steps.now c.args.owners.owners.items c.args.owners.unsure.items c.in_ok-zones.zones.items c.in-Some.crossing are c.requires.owners (subst (λ os. AreZones c.args.steps.now os c.in_ok-zones.zones.items) c.as_slice-owned.ensures.value c.in_ok-zones.ensures) (subst (λ zs. AreCrossing zs c.in-Some.crossing) c.as_slice-listed.ensures.value c.in-Some.ensures))
+returns-in-Some c = λ history are intervals. subst (λ w. IsFound history (Rejected w)) (sym c.witness.ensures) (found_crossed history c.args.steps.now c.args.owners.owners.items c.args.owners.unsure.items c.in_ok-zones.zones.items c.in-Some.crossing are c.requires.owners (subst (λ os. AreZones c.args.steps.now os c.in_ok-zones.zones.items) c.as_slice-owned.ensures.value c.in_ok-zones.ensures) (subst (λ zs. AreCrossing zs c.in-Some.crossing) c.as_slice-listed.ensures.value c.in-Some.ensures) intervals)
 
 pub certificate_by_rules-requires-clause-owners : goal.certificate_by_rules-requires-clause-owners
 certificate_by_rules-requires-clause-owners c = subst (λ os. AreSureOwners c.args.steps.now (length c.args.steps.now) os c.as_slice-doubtful.result.now) (sym c.as_slice-owned.ensures.value) (subst (λ us. AreSureOwners c.args.steps.now (length c.args.steps.now) c.args.owners.owners.items us) (sym c.as_slice-doubtful.ensures.value) c.requires.owners)
@@ -23,6 +23,7 @@ pub returns-then-not-is_empty : goal.returns-then-not-is_empty
 returns-then-not-is_empty c = λ history are intervals. record {
   accepted = tt;
   rejected = tt;
+  first = tt;
   undecided = undecided history c.args.steps.now are c.args.owners.owners.items c.args.owners.unsure.items c.requires.owners c.in_ok-zones.zones.items
       (subst (λ os. AreZones c.args.steps.now os c.in_ok-zones.zones.items) c.as_slice-owned.ensures.value c.in_ok-zones.ensures)
       (subst (λ zs. AllPairs FollowOn zs) c.as_slice-listed.ensures.value (subst (λ o. IsCrossingOrNone c.as_slice-listed.result.now o) c.in_default.is c.crossing_of.ensures))
@@ -43,4 +44,4 @@ pub certificate_by_zones-requires-clause-zones : goal.certificate_by_zones-requi
 certificate_by_zones-requires-clause-zones c = subst (λ zs. AreZones c.args.steps.now c.as_slice-owned.result.now zs) (sym c.as_slice-listed.ensures.value) c.in_ok-zones.ensures
 
 pub returns : goal.returns
-returns c = λ history are intervals. record { accepted = c.in_ok-certificate.ensures history are intervals; rejected = tt; undecided = tt }
+returns c = λ history are intervals. record { accepted = c.in_ok-certificate.ensures history are intervals; rejected = tt; first = tt; undecided = tt }
