@@ -34,3 +34,5 @@ mod DecidingLemmas
 mod MixLemmas
 mod TryingLemmas
 mod FaultLemmas
+mod WrongLemmas
+mod CrossedLemmas

@@ -70,6 +70,11 @@ GoesAlone steps step = (step.kind ≡ kinds.Hit) → ReadsSeveral steps step
 abbrev pub IsSurelyOwned : List NumberedCall → ℕ → NumberedCall → ℕ → Type 0
 IsSurelyOwned steps position step owner = ((owner ≡ position) × GoesAlone steps step) ⊎ ((step.kind ≡ kinds.Hit) × ReadsOnly steps step owner)
 
+-- each call goes by itself, or is a hit that may have read its owner alone
+pub record AreSingle (steps : List NumberedCall) (owners : List ℕ) : Type 0 where
+  pub count : length owners ≡ length steps
+  pub owned : (position : ℕ) (step : NumberedCall) (owner : ℕ) → slice_get steps position ≡ Some step → slice_get owners position ≡ Some owner → (owner ≡ position) ⊎ ((step.kind ≡ kinds.Hit) × ReadsOnly steps step owner)
+
 -- a call at a position has this owner: a put that it may have read, if it is a hit, and otherwise itself
 abbrev pub IsOwned : List NumberedCall → ℕ → NumberedCall → ℕ → Type 0
 IsOwned steps position step owner = ((owner ≡ position) × (¬ (step.kind ≡ kinds.Hit))) ⊎ ((step.kind ≡ kinds.Hit) × ReadsAt steps step owner)

@@ -7,7 +7,8 @@ ghost use Rattle.certificate_finder.specs.Owning.{AreSureOwners};
 ghost use Rattle.certificate_finder.specs.Steps.{AreSteps, IsFit};
 ghost use Rattle.certificate_finder.specs.Witnesses.{IsWitness};
 
-use crate::crossings::crossing_of;
+use crate::crossing::crossing_at;
+use crate::crossings::crossings_of;
 use crate::deciding::certificate_by_rules;
 use crate::excuses::excluded_of;
 use crate::found::Found;
@@ -33,7 +34,7 @@ pub const MAX_CALLS: usize = 2147483647;
 ///
 /// A history that has several reasons is told of the first call that ends before it starts. If there is none, it is told of
 /// the hit that can have read no put and ends first, or of those that end at one stamp the first one in the history. It is told
-/// of crossed writes only if it has neither.
+/// of crossed writes only if it has neither. `find_faults` lists all.
 ///
 /// A hit can have read a put of its key and value that began before the hit ended and had not expired at its moment,
 /// and after which no write of the key lies that ended before the hit began. If each hit can have read at most one, it
@@ -123,8 +124,11 @@ fn arranged(alloc: Global, steps: &[NumberedCall], owners: Owners) -> Result<Fou
     let owned = owners.as_slice();
     let zones = zones_of(alloc, steps, owned)?;
     let listed = zones.as_slice();
-    if let Some(crossing) = crossing_of(listed) {
-        return Ok(Found::Rejected(crossing.witness()));
+    let crossings = crossings_of(alloc, listed)?;
+    let crossed = crossings.as_slice();
+    if !crossed.is_empty() {
+        let first = crossing_at(crossed, 0);
+        return Ok(Found::Rejected(first.witness()));
     }
     let doubtful = unsure.as_slice();
     if !doubtful.is_empty() {
