@@ -1,14 +1,18 @@
 -- Looking for zones that are crossed.
-use Rattle.std.proofs.Common.{◌≡◌, ◌≢◌, ℕ, ◌+◌, ◌*◌, ◌^◌, ◌<◌, ◌≤◌, ◌⊎◌, Bool, true, false, Some, None, List, length, replicate, set, sym, ap, ◌∙◌, subst, arith, inl, inr}
-use Rattle.std.specs.Prelude.{All, AllPairs, slice_get}
+use Rattle.std.proofs.Common.{◌≡◌, ◌≢◌, ℕ, ◌+◌, ◌*◌, ◌^◌, ◌<◌, ◌≤◌, ◌⊎◌, Bool, true, false, ◌-◌, Some, List, [], ◌∷◌, ◌++◌, length, get_or, refl, replicate, set, sym, ap, ◌∙◌, subst, arith, inl, inr}
+use Rattle.std.specs.Prelude.{All, AllPairs, Contains, map, slice_get}
 use Rattle.std.specs.List.Sorted.{IsNonDecreasingBy}
+use Rattle.std.specs.Option.{option_map}
 use Rattle.std.proofs.lemmas.Bool.{cases_eq, cases_lt}
-use Rattle.std.proofs.lemmas.List.{get_or-replicate, length-replicate, length-set}
-use Rattle.std.proofs.lemmas.Option.{get_or_from_slice_get, slice_get_within}
+use Rattle.std.proofs.lemmas.List.{get_or-replicate, length-map, length-replicate, length-set, map_push}
+use Rattle.std.proofs.lemmas.List.Elements.{All-nil, All-push, All-weaker, Contains-append_left, Contains-push}
+use Rattle.std.proofs.lemmas.List.Quantifiers.{all_pairs_push}
+use Rattle.std.proofs.lemmas.Option.{get_or_from_slice_get, slice_get-get_or, slice_get-map, slice_get_within}
+use Rattle.certificate_finder.specs.declared.crossing.Crossing.{Crossing}
 use Rattle.certificate_finder.specs.declared.zone.Zone.{Zone}
 use Rattle.certificate_finder.specs.Deciding.{AreStill, IsCrossedNext, IsMarked}
-use Rattle.certificate_finder.specs.Zones.{AreCrossedAt, AreCrossing, AreDistinct, FollowOn, IsCrossingOrNone, IsFitZone, zone_rank}
-use Rattle.certificate_finder.proofs.EndLemmas.{at_set_other, at_set_same}
+use Rattle.certificate_finder.specs.Zones.{AreCrossedAt, AreCrossedNext, AreCrossing, AreCrossings, AreDistinct, FollowOn, GrowsByCrossing, IsFitZone, IsLastKey, zone_rank}
+use Rattle.certificate_finder.proofs.EndLemmas.{at_set_other, at_set_same, found_at}
 use Rattle.certificate_finder.proofs.Listing.{all_at, contains_at, index_of, pair_at, pairs_from_at, same_at}
 use Rattle.certificate_finder.proofs.Ranking.{rank_at}
 
@@ -22,10 +26,17 @@ pub record IsHighest (zones : List Zone) (upto : ℕ) (high : Zone) : Type 0 whe
   -- none of its key starts later
   pub most : (k : ℕ) (zone : Zone) → k < upto → slice_get zones k ≡ Some zone → zone.key ≡ high.key → zone.start ≤ high.start
 
-pub record HighSoFar (zones : List Zone) (upto : ℕ) (high : Zone) : Type 0 where
+-- the keys of crossings
+abbrev pub keys_of : List Crossing → List ℕ
+keys_of crossings = map (λ (crossing : Crossing). crossing.one.key) crossings
+
+-- the zones so far follow on, but those of the keys that are listed
+pub record CrossingsSoFar (zones : List Zone) (crossings : List Crossing) (upto : ℕ) (high : Zone) : Type 0 where
   pub highest : IsHighest zones upto high
-  -- the zones so far follow on
-  pub follow : (i j : ℕ) (earlier later : Zone) → i < j → j < upto → slice_get zones i ≡ Some earlier → slice_get zones j ≡ Some later → FollowOn earlier later
+  pub each : All (AreCrossing zones) crossings
+  pub below : All (λ (crossing : Crossing). crossing.one.key ≤ high.key) crossings
+  pub rise : AllPairs (λ (one other : Crossing). one.one.key < other.one.key) crossings
+  pub follow : (i j : ℕ) (earlier later : Zone) → i < j → j < upto → slice_get zones i ≡ Some earlier → slice_get zones j ≡ Some later → FollowOn earlier later ⊎ Contains (keys_of crossings) later.key
 
 -- the keys that are marked so far have crossed zones, and the zones so far of the others that were stuck follow on
 pub record StillSoFar (zones : List Zone) (stuck still : List Bool) (upto : ℕ) (high : Zone) : Type 0 where
@@ -66,9 +77,12 @@ module _ (zones : List Zone) (sorted : IsNonDecreasingBy zone_rank zones) (fit :
     most = λ k other less other_at key. let is = same_at zones 0 k zone other (omega arith) at other_at in subst (λ (o : Zone). o.start ≤ zone.start) is (omega arith);
   }
 
-  pub high_begins : (zone : Zone) → slice_get zones 0 ≡ Some zone → HighSoFar zones 1 zone
-  high_begins zone at = record {
+  pub crossings_begin : (zone : Zone) → slice_get zones 0 ≡ Some zone → CrossingsSoFar zones [] 1 zone
+  crossings_begin zone at = record {
     highest = highest_begins zone at;
+    each = All-nil (AreCrossing zones);
+    below = All-nil (λ (crossing : Crossing). crossing.one.key ≤ zone.key);
+    rise = λ i j d less within. absurd (omega arith);
     follow = λ i j earlier later less within one other. absurd (omega arith);
   }
 
@@ -117,18 +131,6 @@ module _ (zones : List Zone) (sorted : IsNonDecreasingBy zone_rank zones) (fit :
         })
       ]
 
-  pub high_goes : (upto : ℕ) (high zone next : Zone) → HighSoFar zones upto high → slice_get zones upto ≡ Some zone → (zone.key ≡ high.key → high.start ≤ zone.end) → ((next ≡ zone) ⊎ ((next ≡ high) × (zone.key ≡ high.key) × (zone.start ≤ high.start))) → (zone.key ≡ high.key → high.start ≤ next.start) → HighSoFar zones (upto + 1) next
-  high_goes upto high zone next had at enough chosen above = record {
-    highest = highest_goes upto high zone next had.highest at chosen above;
-    follow = λ i j earlier later less within one other. elim (cases_eq j upto) [
-      | inl same ↦ subst (λ l. FollowOn earlier l) (same_at zones upto j zone later (sym same) at other) (follows_on upto high zone had.highest at enough i earlier (omega arith) one)
-      | inr before ↦ had.follow i j earlier later less (omega arith) one other
-    ];
-  }
-
-  pub high_ends : (upto : ℕ) (high : Zone) → HighSoFar zones upto high → length zones ≤ upto → IsCrossingOrNone zones None
-  high_ends upto high had all = pairs_from_at FollowOn zones (λ i j earlier later less one other. let within = slice_get_within zones j later other in had.follow i j earlier later less (omega arith) one other)
-
   -- of two zones of a key the later one ends before the earlier one starts: they are crossed
   crossed_pair : AreDistinct zones → (i j : ℕ) (earlier later : Zone) → i < j → slice_get zones i ≡ Some earlier → slice_get zones j ≡ Some later → earlier.key ≡ later.key → later.end < earlier.start → AreCrossing zones (record { one = earlier; other = later })
   crossed_pair distinct i j earlier later before at other_at key less =
@@ -154,8 +156,124 @@ module _ (zones : List Zone) (sorted : IsNonDecreasingBy zone_rank zones) (fit :
     | inr enough ↦ omega arith
   ])
 
-  pub crosses : AreDistinct zones → (upto : ℕ) (high zone : Zone) → HighSoFar zones upto high → slice_get zones upto ≡ Some zone → zone.key ≡ high.key → zone.end < high.start → IsCrossingOrNone zones (Some (record { one = high; other = zone }))
-  crosses distinct upto high zone had at key less = crossing_at distinct upto high zone had.highest at key less
+  -- ---- the crossed zones of each key
+
+  -- the key does not fall
+  key_goes : (high zone next : Zone) → high.key ≤ zone.key → ((next ≡ zone) ⊎ ((next ≡ high) × (zone.key ≡ high.key) × (zone.start ≤ high.start))) → high.key ≤ next.key
+  key_goes high zone next rises chosen = elim chosen [
+    | inl taken ↦ subst (λ (n : Zone). high.key ≤ n.key) (sym taken) rises
+    | inr kept ↦ subst (λ (n : Zone). high.key ≤ n.key) (sym kept.0) (omega arith)
+  ]
+
+  below_goes : (crossings : List Crossing) (high next : Zone) → high.key ≤ next.key → All (λ (crossing : Crossing). crossing.one.key ≤ high.key) crossings → All (λ (crossing : Crossing). crossing.one.key ≤ next.key) crossings
+  below_goes crossings high next le had = All-weaker (λ (crossing : Crossing). crossing.one.key ≤ high.key) (λ (crossing : Crossing). crossing.one.key ≤ next.key) (λ crossing h. omega arith) crossings had
+
+  -- those listed are of lesser keys, if the last one is not of the key
+  lesser : (crossings : List Crossing) (upto : ℕ) (high : Zone) → CrossingsSoFar zones crossings upto high → (key : ℕ) → key ≡ high.key → ¬ IsLastKey crossings key → (k : ℕ) (crossing : Crossing) → slice_get crossings k ≡ Some crossing → crossing.one.key < key
+  lesser crossings upto high had key same not k crossing at =
+      let within = slice_get_within crossings k crossing at in
+      let le = all_at (λ (c : Crossing). c.one.key ≤ high.key) crossings k crossing had.below at in
+      elim (cases_eq (k + 1) (length crossings)) [
+        | inl ends ↦ elim (cases_eq crossing.one.key key) [
+          | inl is ↦ absurd (not (record { index = k; last = crossing; at = at; ends = ends; of_key = is }))
+          | inr other ↦ omega arith
+        ]
+        | inr before ↦
+            let last = found_at crossings (length crossings - 1) (omega arith) in
+            let less = pair_at (λ (one other : Crossing). one.one.key < other.one.key) crossings k (length crossings - 1) crossing last.0 had.rise (omega arith) at last.1 in
+            let most = all_at (λ (c : Crossing). c.one.key ≤ high.key) crossings (length crossings - 1) last.0 had.below last.1 in
+            omega arith
+      ]
+
+  key_listed : (crossings : List Crossing) (k : ℕ) (crossing : Crossing) → slice_get crossings k ≡ Some crossing → Contains (keys_of crossings) crossing.one.key
+  key_listed crossings k crossing at = contains_at (keys_of crossings) k crossing.one.key (slice_get-map (λ (c : Crossing). c.one.key) crossings k ∙ ap (option_map (λ (c : Crossing). c.one.key)) at)
+
+  -- one zone more, which is crossed with the highest and listed with it
+  crossing_listed : (crossings : List Crossing) (upto : ℕ) (high zone next : Zone) → AreDistinct zones → CrossingsSoFar zones crossings upto high → slice_get zones upto ≡ Some zone → AreCrossedNext high zone → ¬ IsLastKey crossings zone.key → high.key ≤ next.key → IsHighest zones (upto + 1) next → CrossingsSoFar zones (crossings ++ record { one = high; other = zone } ∷ []) (upto + 1) next
+  crossing_listed crossings upto high zone next distinct had at crossed not le highest =
+      let crossing : Crossing = record { one = high; other = zone } in
+      let keys : keys_of (crossings ++ record { one = high; other = zone } ∷ []) ≡ keys_of crossings ++ high.key ∷ [] = map_push (λ (c : Crossing). c.one.key) crossings (record { one = high; other = zone }) in
+      record {
+        highest = highest;
+        each = All-push (AreCrossing zones) crossings (record { one = high; other = zone }) had.each (crossing_at distinct upto high zone had.highest at crossed.0 crossed.1);
+        below = All-push (λ (c : Crossing). c.one.key ≤ next.key) crossings (record { one = high; other = zone }) (below_goes crossings high next le had.below) le;
+        rise = all_pairs_push (λ (one other : Crossing). one.one.key < other.one.key) crossings (record { one = high; other = zone }) had.rise (λ k d less.
+            let same = crossed.0 in
+            let l = lesser crossings upto high had zone.key same not k (get_or crossings k d) (slice_get-get_or crossings k d less) in
+            omega arith);
+        follow = λ i j earlier later less within one other. elim (cases_eq j upto) [
+          | inl same ↦ inr (subst (λ ks. Contains ks later.key) (sym keys) (subst (λ key. Contains (keys_of crossings ++ high.key ∷ []) key) (sym crossed.0 ∙ ap (λ (z : Zone). z.key) (same_at zones upto j zone later (sym same) at other)) (Contains-push (keys_of crossings) high.key)))
+          | inr before ↦ elim (had.follow i j earlier later less (omega arith) one other) [
+            | inl on ↦ inl on
+            | inr listed ↦ inr (subst (λ ks. Contains ks later.key) (sym keys) (Contains-append_left (keys_of crossings) (high.key ∷ []) later.key listed))
+          ]
+        ];
+      }
+
+  -- one zone more, which is not listed: it is not crossed, or its key is listed
+  crossing_passed : (crossings : List Crossing) (upto : ℕ) (high zone next : Zone) → CrossingsSoFar zones crossings upto high → slice_get zones upto ≡ Some zone → (¬ AreCrossedNext high zone) ⊎ IsLastKey crossings zone.key → high.key ≤ next.key → IsHighest zones (upto + 1) next → CrossingsSoFar zones crossings (upto + 1) next
+  crossing_passed crossings upto high zone next had at why le highest = record {
+    highest = highest;
+    each = had.each;
+    below = below_goes crossings high next le had.below;
+    rise = had.rise;
+    follow = λ i j earlier later less within one other. elim (cases_eq j upto) [
+      | inl same ↦
+          let is = same_at zones upto j zone later (sym same) at other in
+          elim why [
+            | inl not_crossed ↦ inl (subst (λ l. FollowOn earlier l) is (follows_on upto high zone had.highest at (λ key. elim (cases_lt zone.end high.start) [
+              | inl back ↦ absurd (not_crossed (key, back))
+              | inr enough ↦ omega arith
+            ]) i earlier (omega arith) one))
+            | inr last ↦ inr (subst (λ key. Contains (keys_of crossings) key) (last.of_key ∙ ap (λ (z : Zone). z.key) is) (key_listed crossings last.index last.last last.at))
+          ]
+      | inr before ↦ had.follow i j earlier later less (omega arith) one other
+    ];
+  }
+
+  pub crossings_go : (old new : List Crossing) (upto : ℕ) (high zone next : Zone) → AreDistinct zones → CrossingsSoFar zones old upto high → slice_get zones upto ≡ Some zone → GrowsByCrossing high zone old new → ((next ≡ zone) ⊎ ((next ≡ high) × (zone.key ≡ high.key) × (zone.start ≤ high.start))) → (zone.key ≡ high.key → high.start ≤ next.start) → CrossingsSoFar zones new (upto + 1) next
+  crossings_go old new upto high zone next distinct had at grows chosen above =
+      let highest = highest_goes upto high zone next had.highest at chosen above in
+      let le = key_goes high zone next (keys_rise had.highest.index upto high zone (let h = had.highest.below in omega arith) had.highest.at at) chosen in
+      elim grows [
+        | inl more ↦ subst (λ cs. CrossingsSoFar zones cs (upto + 1) next) (sym more.2) (crossing_listed old upto high zone next distinct had at more.0 more.1 le highest)
+        | inr same ↦ subst (λ cs. CrossingsSoFar zones cs (upto + 1) next) (sym same.1) (crossing_passed old upto high zone next had at same.0 le highest)
+      ]
+
+  -- of two crossed zones the key is listed
+  all_listed : (crossings : List Crossing) (upto : ℕ) (high : Zone) → CrossingsSoFar zones crossings upto high → length zones ≤ upto → (key : ℕ) → AreCrossedAt zones key → Contains (keys_of crossings) key
+  all_listed crossings upto high had all key at_key =
+      let crossing = at_key.crossing in
+      let one = index_of zones crossing.one at_key.crossed.one_listed in
+      let other = index_of zones crossing.other at_key.crossed.other_listed in
+      let one_in = slice_get_within zones one.0 crossing.one one.1 in
+      let other_in = slice_get_within zones other.0 crossing.other other.1 in
+      let forth = at_key.crossed.forth in
+      let back = at_key.crossed.back in
+      elim (cases_lt one.0 other.0) [
+        | inl before ↦ elim (had.follow one.0 other.0 crossing.one crossing.other before (omega arith) one.1 other.1) [
+          | inl on ↦ let le = on at_key.crossed.key in absurd (omega arith)
+          | inr listed ↦ subst (λ k. Contains (keys_of crossings) k) (sym at_key.crossed.key ∙ at_key.of_key) listed
+        ]
+        | inr not_before ↦ elim (cases_eq one.0 other.0) [
+          | inl same ↦ absurd (at_key.crossed.apart (ap (λ (z : Zone). z.write) (same_at zones one.0 other.0 crossing.one crossing.other same one.1 other.1)))
+          | inr apart ↦ elim (had.follow other.0 one.0 crossing.other crossing.one (omega arith) (omega arith) other.1 one.1) [
+            | inl on ↦ let le = on (sym at_key.crossed.key) in absurd (omega arith)
+            | inr listed ↦ subst (λ k. Contains (keys_of crossings) k) at_key.of_key listed
+          ]
+        ]
+      ]
+
+  pub crossings_end : (crossings : List Crossing) (upto : ℕ) (high : Zone) → CrossingsSoFar zones crossings upto high → length zones ≤ upto → AreCrossings zones crossings
+  crossings_end crossings upto high had all = record { each = had.each; rise = had.rise; all = all_listed crossings upto high had all }
+
+  -- zones follow on if none are crossed
+  pub follow_if_none : AreDistinct zones → (crossings : List Crossing) → AreCrossings zones crossings → length crossings ≡ 0 → AllPairs FollowOn zones
+  follow_if_none distinct crossings are none = follow_uncrossed distinct (λ one other crossed.
+      let listed = are.all one.key (record { crossing = record { one = one; other = other }; crossed = crossed; of_key = refl }) in
+      let less : listed.0 < length (keys_of crossings) = listed.1 in
+      let count : length (keys_of crossings) ≡ length crossings = length-map crossings (λ (c : Crossing). c.one.key) in
+      absurd (omega arith))
 
   -- ---- the keys that are still stuck
 
@@ -250,11 +368,9 @@ still_of_empty zones stuck none = record {
   none = λ key not was at_key. let less = at_key.crossed.one_listed.1 in omega arith;
 }
 
-pub none_of_empty : (zones : List Zone) → length zones ≡ 0 → IsCrossingOrNone zones None
-none_of_empty zones none = λ i j d less within. absurd (omega arith)
-
-pub enough_of : (high zone : Zone) → ((zone.key ≡ high.key) × (zone.end < high.start) → false ≡ true) → zone.key ≡ high.key → high.start ≤ zone.end
-enough_of high zone not key = elim (cases_lt zone.end high.start) [
-  | inl less ↦ let h : false ≡ true = not (key, less) in cc
-  | inr enough ↦ omega arith
-]
+pub crossings_of_empty : (zones : List Zone) → length zones ≡ 0 → AreCrossings zones []
+crossings_of_empty zones none = record {
+  each = All-nil (AreCrossing zones);
+  rise = λ i j d less within. absurd (omega arith);
+  all = λ key at_key. let less = at_key.crossed.one_listed.1 in absurd (omega arith);
+}

@@ -1,7 +1,7 @@
 -- Why a hit can have read no put.
-use Rattle.std.proofs.Common.{◌≡◌, ℕ, ◌+◌, ◌^◌, ◌<◌, ◌≤◌, ◌⊎◌, Option, Some, None, List, [], ◌∷◌, ◌++◌, length, sym, ap, ◌∙◌, subst, arith, inl, inr}
+use Rattle.std.proofs.Common.{◌≡◌, ℕ, ◌+◌, ◌^◌, ◌<◌, ◌≤◌, ◌⊎◌, Option, Some, None, List, [], ◌∷◌, ◌++◌, sym, ap, ◌∙◌, subst, arith, inl, inr}
 use Rattle.std.specs.Prelude.{All, Contains, map, slice_get, MatchOption}
-use Rattle.std.proofs.lemmas.Bool.{cases_eq}
+use Rattle.std.proofs.lemmas.Bool.{cases_eq, cases_lt}
 use Rattle.std.proofs.lemmas.List.{map_push}
 use Rattle.std.proofs.lemmas.List.Elements.{All-nil, All-push, Contains-append_left, Contains-push}
 use Rattle.std.proofs.lemmas.Option.{slice_get_within}
@@ -10,19 +10,42 @@ use Rattle.certificate_finder.specs.declared.excluded.Excuse.{Excuse}
 use Rattle.certificate_finder.specs.declared.excluded.Excuse.TheVariants.{Later, Expired, Replaced}
 use Rattle.certificate_finder.specs.declared.put.Put.{Put}
 use Rattle.certificate_finder.specs.declared.numbered_call.NumberedCall.{NumberedCall}
-use Rattle.certificate_finder.specs.Excluding.{AreExcluded, ExcludesStep, IsExcludedStep, GrowsByExcluded, IsExcuse}
+use Rattle.certificate_finder.specs.Excluding.{AreExcluded, ExcludesStep, IsExcludedStep, IsExcuse}
 use Rattle.certificate_finder.specs.Lists.{TellsOne}
 use Rattle.certificate_finder.specs.Owning.{ReadsNoLive}
-use Rattle.certificate_finder.specs.Putting.{ArePuts, EndsOver, IsOver, Putting, TellsPut}
+use Rattle.certificate_finder.specs.Putting.{AreInOrder, ArePuts, EndsOver, IsFitPut, IsOver, Putting, TellsPut, put_rank, value_rank}
+use Rattle.certificate_finder.specs.Writing.{IsSplit, IsSplitBelow}
 use Rattle.certificate_finder.proofs.Listing.{all_at, index_of, same_at}
 use Rattle.certificate_finder.proofs.OwnLemmas.{may_read}
+use Rattle.certificate_finder.proofs.Ranking.{squeezed_key, squeezed_value}
 
 pub record ExcludedSoFar (steps : List NumberedCall) (puts : List Put) (hit : NumberedCall) (upto : ℕ) (excluded : List Excluded) : Type 0 where
   pub each : All (IsExcludedStep steps hit) excluded
   pub all : (k : ℕ) (put : Put) → k < upto → slice_get puts k ≡ Some put → put.key ≡ hit.key → put.value ≡ hit.value → Contains (map (λ one. one.put) excluded) put.position
 
-pub excluded_begin : (steps : List NumberedCall) (puts : List Put) (hit : NumberedCall) → ExcludedSoFar steps puts hit 0 []
-excluded_begin steps puts hit = record { each = All-nil (IsExcludedStep steps hit); all = λ k put less at key value. absurd (omega arith) }
+greater : (k v s : ℕ) → value_rank k v s < value_rank k v 0 → ⊥
+greater k v s less = omega arith
+
+lesser : (k v s : ℕ) → s < 2 ^ 64 → value_rank k v 18446744073709551615 < value_rank k v s → ⊥
+lesser k v s small less = omega arith
+
+-- no put before those of the hit's key and value is of them
+pub excluded_begin : (steps : List NumberedCall) (puts : List Put) (hit : NumberedCall) (from : ℕ) → IsSplitBelow put_rank puts (value_rank hit.key hit.value 0) from → ExcludedSoFar steps puts hit from []
+excluded_begin steps puts hit from split = record {
+  each = All-nil (IsExcludedStep steps hit);
+  all = λ k put less at key value. absurd (greater hit.key hit.value put.start (subst (λ v. value_rank hit.key v put.start < value_rank hit.key hit.value 0) value (subst (λ l. value_rank l put.value put.start < value_rank hit.key hit.value 0) key (split.low k put less at))));
+}
+
+-- a put between is of the key and value
+pub is_like : (puts : List Put) (hit : NumberedCall) (from upto index : ℕ) (put : Put) → AreInOrder puts → hit.value < 2 ^ 32 → IsSplitBelow put_rank puts (value_rank hit.key hit.value 0) from → IsSplit put_rank puts (value_rank hit.key hit.value 18446744073709551615) upto → from ≤ index → index < upto → slice_get puts index ≡ Some put → (put.key ≡ hit.key) × (put.value ≡ hit.value)
+is_like puts hit from upto index put are small below above le less at =
+    let fit = all_at IsFitPut puts index put are.fit at in
+    let low = below.high index put le at in
+    let high = above.low index put less at in
+    let key = squeezed_key hit.key hit.value 0 put.key put.value put.start 18446744073709551615 small fit.value (omega arith) fit.start (omega arith) low high in
+    let low' = subst (λ k. value_rank hit.key hit.value 0 ≤ value_rank k put.value put.start) key low in
+    let high' = subst (λ k. value_rank k put.value put.start ≤ value_rank hit.key hit.value 18446744073709551615) key high in
+    (key, squeezed_value hit.key hit.value 0 put.value put.start 18446744073709551615 (omega arith) fit.start (omega arith) low' high')
 
 ends_at : (steps : List NumberedCall) (step : NumberedCall) (dead write : ℕ) (over : Option ℕ) → over ≡ Some write → MatchOption over (dead ≡ 18446744073709551615) (EndsOver steps step dead) → EndsOver steps step dead write
 ends_at steps step dead write over is by = subst (λ o. MatchOption o (dead ≡ 18446744073709551615) (EndsOver steps step dead)) is by
@@ -70,27 +93,18 @@ module _ (steps : List NumberedCall) (puts : List Put) (are : ArePuts steps puts
         ]);
       }
 
-  pub excluded_pass : (upto : ℕ) (put : Put) (excluded : List Excluded) → ExcludedSoFar steps puts hit upto excluded → slice_get puts upto ≡ Some put → ¬ ((put.key ≡ hit.key) × (put.value ≡ hit.value)) → ExcludedSoFar steps puts hit (upto + 1) excluded
-  excluded_pass upto put excluded had at unlike = record {
-    each = had.each;
-    all = λ k other less other_at key value. elim (cases_eq k upto) [
-      | inl same ↦ let e = same_at puts upto k put other (sym same) at other_at in absurd (unlike (ap (λ (p : Put). p.key) e ∙ key, ap (λ (p : Put). p.value) e ∙ value))
-      | inr before ↦ had.all k other (omega arith) other_at key value
-    ];
-  }
-
-  pub excluded_grows : (upto : ℕ) (put : Put) (old new : List Excluded) → ExcludedSoFar steps puts hit upto old → slice_get puts upto ≡ Some put → GrowsByExcluded put hit old new → ExcludedSoFar steps puts hit (upto + 1) new
-  excluded_grows upto put old new had at grows = elim grows [
-    | inl more ↦ subst (λ items. ExcludedSoFar steps puts hit (upto + 1) items) (sym more.1.2) (excluded_more upto put more.1.0 old had at more.0 more.1.1)
-    | inr same ↦ subst (λ items. ExcludedSoFar steps puts hit (upto + 1) items) (sym same.1) (excluded_pass upto put old had at same.0)
-  ]
-
-  pub excluded_end : (upto : ℕ) (excluded : List Excluded) → ExcludedSoFar steps puts hit upto excluded → length puts ≤ upto → AreExcluded steps hit excluded
-  excluded_end upto excluded had all = record {
+  -- no put after those of the hit's key and value is of them
+  pub excluded_end : (index upto : ℕ) (excluded : List Excluded) → ExcludedSoFar steps puts hit index excluded → upto ≤ index → IsSplit put_rank puts (value_rank hit.key hit.value 18446744073709551615) upto → AreExcluded steps hit excluded
+  excluded_end index upto excluded had all split = record {
     each = had.each;
     all = λ p step at like.
         let t = are.lists.complete p step (slice_get_within steps p step at) at like.kind in
         let k = index_of puts t.item t.listed in
-        let within = slice_get_within puts k.0 t.item k.1 in
-        subst (λ q. Contains (map (λ (one : Excluded). one.put) excluded) q) t.told.is_at (had.all k.0 t.item (omega arith) k.1 (t.told.key ∙ like.key) (t.told.value ∙ like.value));
+        let fit = all_at IsFitPut puts k.0 t.item are.in_order.fit k.1 in
+        let key = t.told.key ∙ like.key in
+        let value = t.told.value ∙ like.value in
+        elim (cases_lt k.0 upto) [
+          | inl less ↦ subst (λ q. Contains (map (λ (one : Excluded). one.put) excluded) q) t.told.is_at (had.all k.0 t.item (omega arith) k.1 key value)
+          | inr behind ↦ absurd (lesser hit.key hit.value t.item.start fit.start (subst (λ v. value_rank hit.key hit.value 18446744073709551615 < value_rank hit.key v t.item.start) value (subst (λ l. value_rank hit.key hit.value 18446744073709551615 < value_rank l t.item.value t.item.start) key (split.high k.0 t.item (omega arith) k.1))))
+        ];
   }

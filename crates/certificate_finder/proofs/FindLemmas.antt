@@ -1,5 +1,5 @@
 -- What calls in numbers say of their history.
-use Rattle.std.proofs.Common.{◌≡◌, ℕ, ◌<◌, ◌≤◌, Some, List, length, refl, sym, ap, ◌∙◌, subst, arith, inl, inr}
+use Rattle.std.proofs.Common.{◌≡◌, ℕ, ◌<◌, ◌≤◌, Some, List, refl, sym, ap, ◌∙◌, subst, arith, inl, inr}
 use Rattle.std.specs.Prelude.{All, slice_get, IsTrue, IsSomeAnd}
 use Rattle.std.proofs.lemmas.Bool.{cases_lt}
 use Rattle.std.proofs.lemmas.List.Elements.{All-contains, All-weaker}
@@ -21,7 +21,7 @@ use Rattle.certificate_finder.specs.declared.numbered_call.NumberedCall.{Numbere
 use Rattle.certificate_finder.specs.declared.zone.Zone.{Zone}
 use Rattle.certificate_finder.specs.Excluding.{AreExcludedAt, ExcludesStep, IsExcludedStep}
 use Rattle.certificate_finder.specs.Lists.{TellsOne}
-use Rattle.certificate_finder.specs.Owning.{AreSureOwners, IsUnsure, MayRead, ReadsLive, ReadsOnly}
+use Rattle.certificate_finder.specs.Owning.{AreSingle, IsUnsure, MayRead, ReadsLive, ReadsOnly}
 use Rattle.certificate_finder.specs.Putting.{IsOver}
 use Rattle.certificate_finder.specs.Reads.{CouldRead, HasBegun, HasSeveral, StandsBetween, StandsFor}
 use Rattle.certificate_finder.specs.Steps.{AreSteps, IsStep, IsWriting, kind_of}
@@ -309,11 +309,11 @@ module _ (history : List Call) (steps : List NumberedCall) (are : AreSteps histo
 
   -- ---- two writes that are crossed
 
-  pub goes_with : (owners unsure : List ℕ) (write q : ℕ) (s : NumberedCall) → AreSureOwners steps (length steps) owners unsure → slice_get steps q ≡ Some s → Goes owners write q → GoesWith history write q
-  goes_with owners unsure write q s own at goes = elim goes [
+  pub goes_with : (owners : List ℕ) (write q : ℕ) (s : NumberedCall) → AreSingle steps owners → slice_get steps q ≡ Some s → Goes owners write q → GoesWith history write q
+  goes_with owners write q s own at goes = elim goes [
     | inl same ↦ inl same
     | inr owned ↦ elim (own.owned q s write at owned) [
-      | inl alone ↦ inl (sym alone.0)
+      | inl alone ↦ inl (sym alone)
       | inr hit ↦
           let c = call_at q s at in
           let v = hit_at q c.0 s c.2 hit.0 in
@@ -330,7 +330,7 @@ module _ (history : List Call) (steps : List NumberedCall) (are : AreSteps histo
     ]
   ]
 
-  module _ (owners unsure : List ℕ) (own : AreSureOwners steps (length steps) owners unsure) (zones : List Zone) (zs : AreZones steps owners zones) where
+  module _ (owners : List ℕ) (own : AreSingle steps owners) (zones : List Zone) (zs : AreZones steps owners zones) where
     is_side : (one other : Zone) (key : List ℕ) (v : Call) → (tells : TellsOne steps Writing (TellsZone steps owners) one) → (others : TellsOne steps Writing (TellsZone steps owners) other) → slice_get history tells.position ≡ Some v → v.key ≡ key → one.end < other.start → IsSide history key (record { write = one.write; early = one.early; late = one.late }) (record { write = other.write; early = other.early; late = other.late })
     is_side one other key v tells others at same less =
         let here : one.write ≡ tells.position = tells.told.write in
@@ -343,8 +343,8 @@ module _ (history : List Call) (steps : List NumberedCall) (are : AreSteps histo
         let d = others.told.start in
         record {
           writes = and_some (slice_get history one.write) (λ w. Writes (deed_of w) key) v (ap (slice_get history) here ∙ at) (same, write_of v.act (subst IsWriting vs.kind tells.is_wanted));
-          early_goes = subst (λ w. GoesWith history w one.early) (sym here) (goes_with owners unsure tells.position one.early tells.told.first own tells.told.earliest.at tells.told.earliest.goes);
-          late_goes = subst (λ w. GoesWith history w one.late) (sym here) (goes_with owners unsure tells.position one.late tells.told.last own tells.told.latest.at tells.told.latest.goes);
+          early_goes = subst (λ w. GoesWith history w one.early) (sym here) (goes_with owners tells.position one.early tells.told.first own tells.told.earliest.at tells.told.earliest.goes);
+          late_goes = subst (λ w. GoesWith history w one.late) (sym here) (goes_with owners tells.position one.late tells.told.last own tells.told.latest.at tells.told.latest.goes);
           precedes = and_some (slice_get history one.early) (λ e. IsSomeAnd (slice_get history other.late) (λ l. Precedes e l)) early.0 early.1 (and_some (slice_get history other.late) (λ l. Precedes early.0 l) late.0 late.1 (omega arith));
         }
 

@@ -13,12 +13,14 @@ use Rattle.certificate_finder.specs.declared.numbered_call.NumberedCall.{Numbere
 use Rattle.certificate_finder.specs.declared.ranked.Ranked.{Ranked}
 use Rattle.certificate_finder.specs.declared.rule.Rule.{Rule}
 use Rattle.certificate_finder.specs.declared.call_span.CallSpan.{CallSpan}
-use Rattle.certificate_finder.specs.Choosing.{ChoosesBy, ComesBefore, IsChosen}
+use Rattle.certificate_finder.specs.declared.stamp.Stamp.{Stamp}
+use Rattle.certificate_finder.specs.declared.stamp.Stamp.TheVariants.{Start, End}
+use Rattle.certificate_finder.specs.Choosing.{ChoosesBy, ComesBefore, IsChosen, IsEarlierBy}
 use Rattle.certificate_finder.specs.Lining.{positions_in}
-use Rattle.certificate_finder.specs.Offering.{AreListed, HitsInTurn, rank_of_hit, times_in}
+use Rattle.certificate_finder.specs.Offering.{AreByStamps, AreListed, rank_of_hit, stamp_at, stamp_of, times_in}
 use Rattle.certificate_finder.proofs.EndLemmas.{at_set_other, at_set_same}
 use Rattle.certificate_finder.proofs.Listing.{all_at, contains_at, distinct_permuted, index_of, pair_at, pairs_from_at, same_at}
-use Rattle.certificate_finder.proofs.OfferLemmas.{at_unset, start_is}
+use Rattle.certificate_finder.proofs.OfferLemmas.{at_unset, end_is, start_is}
 use Rattle.certificate_finder.proofs.Ranking.{rank_at}
 use Rattle.certificate_finder.proofs.SpotLemmas.{ranked_of}
 
@@ -111,17 +113,9 @@ next_fresh steps hits index hit order at has =
 
 -- ---- hits with their ranks, and sorted by them
 
-pub listed_begin : (steps : List NumberedCall) (unsure : List ℕ) → AreListed steps unsure 0 []
-listed_begin steps unsure = record { same = refl; ranks = All-nil (λ (hit : Ranked). (hit.rank ≡ rank_of_hit steps hit.position) × (hit.position < 2 ^ 32)) }
-
-pub listed_more : (steps : List NumberedCall) (unsure : List ℕ) (upto position rank : ℕ) (hits : List Ranked) (step : NumberedCall) → AreListed steps unsure upto hits → slice_get unsure upto ≡ Some position → slice_get steps position ≡ Some step → position < 2 ^ 32 → rank ≡ step.start * 2 ^ 32 + position → AreListed steps unsure (upto + 1) (hits ++ record { position = position; rank = rank } ∷ [])
-listed_more steps unsure upto position rank hits step had at at_step small is =
-    let start = start_is steps position step at_step in
-    let same : step.start * 2 ^ 32 + position ≡ rank_of_hit steps position = ap (λ s. s * 2 ^ 32 + position) (sym start) in
-    record {
-      same = map_push (λ (r : Ranked). r.position) hits (record { position = position; rank = rank }) ∙ ap (λ ps. ps ++ position ∷ []) had.same ∙ sym (take_next unsure upto position at);
-      ranks = All-push (λ (hit : Ranked). (hit.rank ≡ rank_of_hit steps hit.position) × (hit.position < 2 ^ 32)) hits (record { position = position; rank = rank }) had.ranks (is ∙ same, small);
-    }
+stamp_is : (stamp : Stamp) (steps : List NumberedCall) (p : ℕ) (step : NumberedCall) → slice_get steps p ≡ Some step → stamp_at stamp steps p ≡ stamp_of stamp step
+stamp_is Start steps p step at = start_is steps p step at
+stamp_is End steps p step at = end_is steps p step at
 
 ordered : (s t p q : ℕ) → p < 2 ^ 32 → q < 2 ^ 32 → s * 2 ^ 32 + p ≤ t * 2 ^ 32 + q → s ≤ t
 ordered s t p q a b le = omega arith
@@ -129,42 +123,55 @@ ordered s t p q a b le = omega arith
 ordered_in : (s p q : ℕ) → s * 2 ^ 32 + p ≤ s * 2 ^ 32 + q → p ≤ q
 ordered_in s p q le = omega arith
 
-before_by : (steps : List NumberedCall) (p q : ℕ) → p < 2 ^ 32 → q < 2 ^ 32 → p ≢ q → rank_of_hit steps p ≤ rank_of_hit steps q → ComesBefore (times_in steps) p q
-before_by steps p q a b apart le =
-    let starts = ordered (times_in steps p).start (times_in steps q).start p q a b le in
-    elim (cases_eq (times_in steps p).start (times_in steps q).start) [
-      | inl same ↦
-          let in_one = ordered_in (times_in steps q).start p q (subst (λ s. s * 2 ^ 32 + p ≤ (times_in steps q).start * 2 ^ 32 + q) same le) in
-          inr (same, (let differ : p ≡ q → ⊥ = apart in elim (cases_eq p q) [ inl equal ↦ absurd (differ equal) | inr other ↦ elim (cases_lt p q) [ inl less ↦ less | inr not ↦ absurd (other (omega arith)) ] ]))
-      | inr other ↦ elim (cases_lt (times_in steps p).start (times_in steps q).start) [
-        | inl less ↦ inl less
-        | inr not ↦ absurd (other (omega arith))
-      ]
-    ]
+module _ (stamp : Stamp) (steps : List NumberedCall) where
+  pub listed_begin : (positions : List ℕ) → AreListed stamp steps positions 0 []
+  listed_begin positions = record { same = refl; ranks = All-nil (λ (hit : Ranked). (hit.rank ≡ rank_of_hit stamp steps hit.position) × (hit.position < 2 ^ 32)) }
 
-pub are_turned : (steps : List NumberedCall) (unsure : List ℕ) (xs ys : List Ranked) → AllPairs (λ earlier later. earlier < later) unsure → AreListed steps unsure (length unsure) xs → IsPermutation xs ys → IsNonDecreasingBy (λ (hit : Ranked). hit.rank) ys → HitsInTurn steps unsure ys
-are_turned steps unsure xs ys rise had moved sorted =
-    let all : positions_in xs ≡ unsure = had.same ∙ take_all (length unsure) unsure (omega arith) in
-    let moved_positions : IsPermutation (positions_in xs) (positions_in ys) = IsPermutation-map (λ (r : Ranked). r.position) xs ys moved in
-    let ranks = All-permutation (λ (hit : Ranked). (hit.rank ≡ rank_of_hit steps hit.position) × (hit.position < 2 ^ 32)) xs ys moved had.ranks in
-    let apart : AllPairs (λ (a b : Ranked). a.position ≢ b.position) xs = pairs_from_at (λ (a b : Ranked). a.position ≢ b.position) xs (λ i j a b less one other same.
-    let at_i : slice_get unsure i ≡ Some a.position = ap (λ us. slice_get us i) (sym all) ∙ position_at xs i a one in
-    let at_j : slice_get unsure j ≡ Some b.position = ap (λ us. slice_get us j) (sym all) ∙ position_at xs j b other in
-    let l : a.position < b.position = pair_at (λ earlier later. earlier < later) unsure i j a.position b.position rise less at_i at_j in
-    absurd (omega arith)) in
-    let distinct = distinct_permuted (λ (r : Ranked). r.position) xs ys moved apart in
-    record {
-      same = λ hit. (
-        λ has. Contains-permutation (positions_in xs) (positions_in ys) hit moved_positions (subst (λ us. Contains us hit) (sym all) has),
-        λ has. subst (λ us. Contains us hit) all (Contains-permutation (positions_in ys) (positions_in xs) hit (IsPermutation-sym (positions_in xs) (positions_in ys) moved_positions) has),
-      );
-      order = pairs_from_at (ComesBefore (times_in steps)) (positions_in ys) (λ i j p q less one other.
-          let a = ranked_of ys i p one in
-          let b = ranked_of ys j q other in
-          let le = rank_at (λ (hit : Ranked). hit.rank) ys i j a.0 b.0 sorted (omega arith) a.1 b.1 in
-          let ra = all_at (λ (hit : Ranked). (hit.rank ≡ rank_of_hit steps hit.position) × (hit.position < 2 ^ 32)) ys i a.0 ranks a.1 in
-          let rb = all_at (λ (hit : Ranked). (hit.rank ≡ rank_of_hit steps hit.position) × (hit.position < 2 ^ 32)) ys j b.0 ranks b.1 in
-          let differ = pair_at (λ (x y : Ranked). x.position ≢ y.position) ys i j a.0 b.0 distinct less a.1 b.1 in
-          let le' : rank_of_hit steps a.0.position ≤ rank_of_hit steps b.0.position = let e = ra.0 in let f = rb.0 in omega arith in
-          subst (λ x. ComesBefore (times_in steps) x q) a.2 (subst (λ y. ComesBefore (times_in steps) a.0.position y) b.2 (before_by steps a.0.position b.0.position ra.1 rb.1 differ le')));
-    }
+  pub listed_more : (positions : List ℕ) (upto position rank : ℕ) (hits : List Ranked) (step : NumberedCall) → AreListed stamp steps positions upto hits → slice_get positions upto ≡ Some position → slice_get steps position ≡ Some step → position < 2 ^ 32 → rank ≡ stamp_of stamp step * 2 ^ 32 + position → AreListed stamp steps positions (upto + 1) (hits ++ record { position = position; rank = rank } ∷ [])
+  listed_more positions upto position rank hits step had at at_step small is =
+      let own = stamp_is stamp steps position step at_step in
+      let same : stamp_of stamp step * 2 ^ 32 + position ≡ rank_of_hit stamp steps position = ap (λ s. s * 2 ^ 32 + position) (sym own) in
+      record {
+        same = map_push (λ (r : Ranked). r.position) hits (record { position = position; rank = rank }) ∙ ap (λ ps. ps ++ position ∷ []) had.same ∙ sym (take_next positions upto position at);
+        ranks = All-push (λ (hit : Ranked). (hit.rank ≡ rank_of_hit stamp steps hit.position) × (hit.position < 2 ^ 32)) hits (record { position = position; rank = rank }) had.ranks (is ∙ same, small);
+      }
+
+  before_by : (p q : ℕ) → p < 2 ^ 32 → q < 2 ^ 32 → p ≢ q → rank_of_hit stamp steps p ≤ rank_of_hit stamp steps q → IsEarlierBy (stamp_at stamp steps) p q
+  before_by p q a b apart le =
+      let stamps = ordered (stamp_at stamp steps p) (stamp_at stamp steps q) p q a b le in
+      elim (cases_eq (stamp_at stamp steps p) (stamp_at stamp steps q)) [
+        | inl same ↦
+            let in_one = ordered_in (stamp_at stamp steps q) p q (subst (λ s. s * 2 ^ 32 + p ≤ stamp_at stamp steps q * 2 ^ 32 + q) same le) in
+            inr (same, (let differ : p ≡ q → ⊥ = apart in elim (cases_eq p q) [ inl equal ↦ absurd (differ equal) | inr other ↦ elim (cases_lt p q) [ inl less ↦ less | inr not ↦ absurd (other (omega arith)) ] ]))
+        | inr other ↦ elim (cases_lt (stamp_at stamp steps p) (stamp_at stamp steps q)) [
+          | inl less ↦ inl less
+          | inr not ↦ absurd (other (omega arith))
+        ]
+      ]
+
+  pub are_turned : (positions : List ℕ) (xs ys : List Ranked) → AllPairs (λ earlier later. earlier < later) positions → AreListed stamp steps positions (length positions) xs → IsPermutation xs ys → IsNonDecreasingBy (λ (hit : Ranked). hit.rank) ys → AreByStamps stamp steps positions ys
+  are_turned positions xs ys rise had moved sorted =
+      let all : positions_in xs ≡ positions = had.same ∙ take_all (length positions) positions (omega arith) in
+      let moved_positions : IsPermutation (positions_in xs) (positions_in ys) = IsPermutation-map (λ (r : Ranked). r.position) xs ys moved in
+      let ranks = All-permutation (λ (hit : Ranked). (hit.rank ≡ rank_of_hit stamp steps hit.position) × (hit.position < 2 ^ 32)) xs ys moved had.ranks in
+      let apart : AllPairs (λ (a b : Ranked). a.position ≢ b.position) xs = pairs_from_at (λ (a b : Ranked). a.position ≢ b.position) xs (λ i j a b less one other same.
+      let at_i : slice_get positions i ≡ Some a.position = ap (λ us. slice_get us i) (sym all) ∙ position_at xs i a one in
+      let at_j : slice_get positions j ≡ Some b.position = ap (λ us. slice_get us j) (sym all) ∙ position_at xs j b other in
+      let l : a.position < b.position = pair_at (λ earlier later. earlier < later) positions i j a.position b.position rise less at_i at_j in
+      absurd (omega arith)) in
+      let distinct = distinct_permuted (λ (r : Ranked). r.position) xs ys moved apart in
+      record {
+        same = λ hit. (
+          λ has. Contains-permutation (positions_in xs) (positions_in ys) hit moved_positions (subst (λ us. Contains us hit) (sym all) has),
+          λ has. subst (λ us. Contains us hit) all (Contains-permutation (positions_in ys) (positions_in xs) hit (IsPermutation-sym (positions_in xs) (positions_in ys) moved_positions) has),
+        );
+        order = pairs_from_at (IsEarlierBy (stamp_at stamp steps)) (positions_in ys) (λ i j p q less one other.
+            let a = ranked_of ys i p one in
+            let b = ranked_of ys j q other in
+            let le = rank_at (λ (hit : Ranked). hit.rank) ys i j a.0 b.0 sorted (omega arith) a.1 b.1 in
+            let ra = all_at (λ (hit : Ranked). (hit.rank ≡ rank_of_hit stamp steps hit.position) × (hit.position < 2 ^ 32)) ys i a.0 ranks a.1 in
+            let rb = all_at (λ (hit : Ranked). (hit.rank ≡ rank_of_hit stamp steps hit.position) × (hit.position < 2 ^ 32)) ys j b.0 ranks b.1 in
+            let differ = pair_at (λ (x y : Ranked). x.position ≢ y.position) ys i j a.0 b.0 distinct less a.1 b.1 in
+            let le' : rank_of_hit stamp steps a.0.position ≤ rank_of_hit stamp steps b.0.position = let e = ra.0 in let f = rb.0 in omega arith in
+            subst (λ x. IsEarlierBy (stamp_at stamp steps) x q) a.2 (subst (λ y. IsEarlierBy (stamp_at stamp steps) a.0.position y) b.2 (before_by a.0.position b.0.position ra.1 rb.1 differ le')));
+      }

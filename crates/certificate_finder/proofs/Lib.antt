@@ -33,3 +33,6 @@ mod InTurnLemmas
 mod DecidingLemmas
 mod MixLemmas
 mod TryingLemmas
+mod FaultLemmas
+mod WrongLemmas
+mod CrossedLemmas

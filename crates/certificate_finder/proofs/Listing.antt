@@ -1,6 +1,6 @@
 -- Lists of what calls of some kind are, as they grow and are sorted.
 use Rattle.std.proofs.Common.{◌≡◌, ◌≢◌, ℕ, ◌+◌, ◌<◌, eqb, Some, List, [], ◌∷◌, ◌++◌, length, get_or, sym, ap, ◌∙◌, subst, arith, inl, inr}
-use Rattle.std.specs.Prelude.{All, AllPairs, Contains, slice_get, map}
+use Rattle.std.specs.Prelude.{All, AllPairs, Bool, Contains, IsTrue, slice_get, map}
 use Rattle.std.specs.List.Sorted.{IsPermutation}
 use Rattle.std.proofs.lemmas.Bool.{cases_eq}
 use Rattle.std.proofs.lemmas.Bool.Decides.{Decides-eqb, nat_tests}
@@ -12,7 +12,7 @@ use Rattle.std.proofs.lemmas.Map.Keys.{IsDistinct-IsPermutation}
 use Rattle.std.proofs.lemmas.Map.Made.{AllPairs-from_IsDistinct, IsDistinct-from_AllPairs}
 use Rattle.std.proofs.lemmas.Option.{get_or_from_slice_get, slice_get_within, same_Some, slice_get-get_or}
 use Rattle.certificate_finder.specs.declared.numbered_call.NumberedCall.{NumberedCall}
-use Rattle.certificate_finder.specs.Lists.{TellsOne, Lists, AreApart, GrowsBy}
+use Rattle.certificate_finder.specs.Lists.{TellsOne, Lists, AreAllBelow, AreApart, GrowsBy, GrowsIf}
 
 -- what holds of each element holds of the one at an index
 pub all_at : {X : Type 0} (P : X → Type 0) (xs : List X) (k : ℕ) (x : X) → All P xs → slice_get xs k ≡ Some x → P x
@@ -141,3 +141,43 @@ grows_weaker wanted tells knows p q step old new more grows = elim grows [
   | inl one ↦ inl (one.0, (one.1.0, more one.1.0 one.1.1, one.1.2))
   | inr same ↦ inr same
 ]
+
+-- ---- all positions of which a fact holds
+
+module _ (P : ℕ → Type 0) where
+  pub all_below_none : AreAllBelow P 0 []
+  all_below_none = record {
+    each = All-nil P;
+    all = λ p less holds. absurd (omega arith);
+    rise = λ i j d less within. absurd (omega arith);
+    below = All-nil (λ p. p < 0);
+  }
+
+  pub all_below_pass : (upto : ℕ) (positions : List ℕ) → AreAllBelow P upto positions → ¬ P upto → AreAllBelow P (upto + 1) positions
+  all_below_pass upto positions had not = record {
+    each = had.each;
+    all = λ p less holds. elim (cases_eq p upto) [
+      | inl same ↦ absurd (not (subst P same holds))
+      | inr other ↦ had.all p (omega arith) holds
+    ];
+    rise = had.rise;
+    below = All-weaker (λ p. p < upto) (λ p. p < upto + 1) (λ p h. omega arith) positions had.below;
+  }
+
+  pub all_below_push : (upto : ℕ) (positions : List ℕ) → AreAllBelow P upto positions → P upto → AreAllBelow P (upto + 1) (positions ++ upto ∷ [])
+  all_below_push upto positions had is = record {
+    each = All-push P positions upto had.each is;
+    all = λ p less holds. elim (cases_eq p upto) [
+      | inl same ↦ subst (λ q. Contains (positions ++ upto ∷ []) q) (sym same) (Contains-push positions upto)
+      | inr other ↦ Contains-append_left positions (upto ∷ []) p (had.all p (omega arith) holds)
+    ];
+    rise = all_pairs_push (λ a b. a < b) positions upto had.rise (λ k d less. had.below k d less);
+    below = All-push (λ p. p < upto + 1) positions upto (All-weaker (λ p. p < upto) (λ p. p < upto + 1) (λ p h. omega arith) positions had.below) (omega arith);
+  }
+
+  -- one position more, if a test says that the fact holds of it
+  pub all_below_if : (test : Bool) (upto : ℕ) (old new : List ℕ) → AreAllBelow P upto old → GrowsIf test upto old new → (IsTrue test → P upto) → (P upto → IsTrue test) → AreAllBelow P (upto + 1) new
+  all_below_if test upto old new had grows sound complete = elim grows [
+    | inl more ↦ subst (λ ps. AreAllBelow P (upto + 1) ps) (sym more.1) (all_below_push upto old had (sound more.0))
+    | inr same ↦ subst (λ ps. AreAllBelow P (upto + 1) ps) (sym same.1) (all_below_pass upto old had (λ holds. same.0 (complete holds)))
+  ]

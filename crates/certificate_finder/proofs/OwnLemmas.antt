@@ -1,11 +1,8 @@
 -- With which write each call goes.
-use Rattle.std.proofs.Common.{◌≡◌, ◌≢◌, ℕ, ◌+◌, ◌^◌, ◌<◌, ◌≤◌, Option, Some, None, List, [], ◌∷◌, ◌++◌, refl, sym, ap, ◌∙◌, subst, arith, inl, inr}
+use Rattle.std.proofs.Common.{◌≡◌, ◌≢◌, ℕ, ◌+◌, ◌^◌, ◌<◌, ◌≤◌, Option, Some, None, List, [], ◌∷◌, ◌++◌, length, refl, sym, ap, ◌∙◌, subst, arith, inl, inr}
 use Rattle.std.specs.Prelude.{Contains, slice_get, IsTrue, MatchOption}
-use Rattle.std.proofs.Common.{true, false}
 use Rattle.std.proofs.lemmas.Bool.{cases_eq}
 use Rattle.std.proofs.lemmas.List.{length_push}
-use Rattle.std.proofs.lemmas.List.Elements.{All-nil, All-push, All-weaker, Contains-append_left, Contains-push}
-use Rattle.std.proofs.lemmas.List.Quantifiers.{all_pairs_push}
 use Rattle.std.proofs.lemmas.Option.{slice_get_within}
 use Rattle.record_pages.specs.Expiry.{is_live}
 use Rattle.certificate_finder.specs.declared.call_kind.CallKind.TheVariants as kinds
@@ -14,13 +11,14 @@ use Rattle.certificate_finder.specs.declared.owner.Owner.TheVariants as kinds_of
 use Rattle.certificate_finder.specs.declared.put.Put.{Put}
 use Rattle.certificate_finder.specs.declared.readable.Readable.TheVariants as readings
 use Rattle.certificate_finder.specs.declared.numbered_call.NumberedCall.{NumberedCall}
-use Rattle.certificate_finder.specs.Lists.{TellsOne}
-use Rattle.certificate_finder.specs.Owning.{AreSureOwners, IsNoted, IsSurelyOwned, IsOwner, IsOwnerAt, IsRefused, IsUnsure, MayRead, ReadsLive, ReadsNoLive, ReadsOnly, ReadsSeveral}
+use Rattle.certificate_finder.specs.declared.owning.Owners.{Owners}
+use Rattle.certificate_finder.specs.Lists.{AreAllBelow, TellsOne}
+use Rattle.certificate_finder.specs.Owning.{AreKnownOwners, AreSureOwners, HasOneMore, IsKnownOwner, IsNoted, IsOwner, IsOwnerAt, IsRefused, IsUnsure, MayRead, ReadsLive, ReadsNoLive, ReadsOnly, ReadsSeveral}
 use Rattle.certificate_finder.specs.Putting.{ArePuts, CanRead, EndsOver, GivesAt, Putting, TellsPut}
 use Rattle.certificate_finder.specs.Readings.{Says}
 use Rattle.certificate_finder.specs.Steps.{IsFit}
 use Rattle.certificate_checker.proofs.public_laws.Laying.{cases_before}
-use Rattle.certificate_finder.proofs.Listing.{all_at, index_of, pair_at, same_at}
+use Rattle.certificate_finder.proofs.Listing.{all_at, all_below_none, all_below_pass, all_below_push, index_of, pair_at, same_at}
 use Rattle.certificate_finder.proofs.StepLemmas.{at_front, at_push}
 
 -- ---- what a put says of its call
@@ -125,82 +123,87 @@ module _ (steps : List NumberedCall) (puts : List Put) (are : ArePuts steps puts
 
 -- ---- one call more has its owner
 
-pub owners_begin : (steps : List NumberedCall) → AreSureOwners steps 0 [] []
-owners_begin steps = record {
-  count = refl;
-  owned = λ p step owner at none. absurd (let within = slice_get_within {A = ℕ} [] p owner none in omega arith);
-  are_unsure = All-nil (IsUnsure steps);
-  all = λ p less unsure. absurd (omega arith);
-  rise = λ i j d less within. absurd (omega arith);
-  below = All-nil (λ p. p < 0);
+pub owners_begin : (steps : List NumberedCall) (owners : Owners) → owners.owners.items ≡ [] → owners.unsure.items ≡ [] → owners.wrong.items ≡ [] → AreKnownOwners steps 0 owners
+owners_begin steps owners none none_unsure none_wrong = record {
+  count = ap length none;
+  owned = λ p step owner at owner_at. absurd (let within = slice_get_within {A = ℕ} [] p owner (subst (λ os. slice_get os p ≡ Some owner) none owner_at) in omega arith);
+  unsure = subst (λ us. AreAllBelow (IsUnsure steps) 0 us) (sym none_unsure) (all_below_none (IsUnsure steps));
+  wrong = subst (λ ws. AreAllBelow (IsRefused steps) 0 ws) (sym none_wrong) (all_below_none (IsRefused steps));
 }
 
-module _ (steps : List NumberedCall) (upto : ℕ) (owners unsure : List ℕ) (had : AreSureOwners steps upto owners unsure) (step : NumberedCall) (at : slice_get steps upto ≡ Some step) where
-  owned_more : (owner : ℕ) → IsSurelyOwned steps upto step owner → (p : ℕ) (s : NumberedCall) (o : ℕ) → slice_get steps p ≡ Some s → slice_get (owners ++ owner ∷ []) p ≡ Some o → IsSurelyOwned steps p s o
+-- a hit that may read a put is no wrong one
+reads_some : (steps : List NumberedCall) (hit put : NumberedCall) (p : ℕ) → slice_get steps p ≡ Some put → ReadsLive steps hit put → ¬ ReadsNoLive steps hit
+reads_some steps hit put p at reads none = none p put at reads.may reads.live
+
+module _ (steps : List NumberedCall) (upto : ℕ) (old new : Owners) (had : AreKnownOwners steps upto old) (step : NumberedCall) (at : slice_get steps upto ≡ Some step) where
+  owned_more : (owner : ℕ) → IsKnownOwner steps upto step owner → (p : ℕ) (s : NumberedCall) (o : ℕ) → slice_get steps p ≡ Some s → slice_get (old.owners.items ++ owner ∷ []) p ≡ Some o → IsKnownOwner steps p s o
   owned_more owner is p s o at_s at_o = elim (cases_eq p upto) [
     | inl same ↦
-        let e = at_push owners owner o p at_o (same ∙ sym had.count) in
+        let e = at_push old.owners.items owner o p at_o (same ∙ sym had.count) in
         let t = same_at steps upto p step s (sym same) at at_s in
-        subst (λ x. IsSurelyOwned steps p s x) e (subst (λ u. IsSurelyOwned steps p u owner) t (subst (λ q. IsSurelyOwned steps q step owner) (sym same) is))
-    | inr other ↦ had.owned p s o at_s (at_front owners owner o p at_o (λ last. other (last ∙ had.count)))
+        subst (λ x. IsKnownOwner steps p s x) e (subst (λ u. IsKnownOwner steps p u owner) t (subst (λ q. IsKnownOwner steps q step owner) (sym same) is))
+    | inr other ↦ had.owned p s o at_s (at_front old.owners.items owner o p at_o (λ last. other (last ∙ had.count)))
   ]
 
-  -- a call that is sure of its owner
-  pub owner_more : (owner : ℕ) → IsSurelyOwned steps upto step owner → ¬ IsUnsure steps upto → AreSureOwners steps (upto + 1) (owners ++ owner ∷ []) unsure
-  owner_more owner is sure = record {
-    count = let l = length_push owners owner in let c = had.count in omega arith;
-    owned = owned_more owner is;
-    are_unsure = had.are_unsure;
-    all = λ p less one. elim (cases_eq p upto) [
-      | inl same ↦ absurd (sure (subst (λ q. IsUnsure steps q) same one))
-      | inr other ↦ had.all p (omega arith) one
-    ];
-    rise = had.rise;
-    below = All-weaker (λ p. p < upto) (λ p. p < upto + 1) (λ p h. omega arith) unsure had.below;
+  known_more : (owner : ℕ) (unsure wrong : List ℕ) → HasOneMore old new owner unsure wrong → IsKnownOwner steps upto step owner → AreAllBelow (IsUnsure steps) (upto + 1) unsure → AreAllBelow (IsRefused steps) (upto + 1) wrong → AreKnownOwners steps (upto + 1) new
+  known_more owner unsure wrong more is are_unsure are_wrong = record {
+    count = let l = length_push old.owners.items owner in let c = had.count in let e = ap length more.owners in omega arith;
+    owned = λ p s o at_s at_o. owned_more owner is p s o at_s (subst (λ os. slice_get os p ≡ Some o) more.owners at_o);
+    unsure = subst (λ us. AreAllBelow (IsUnsure steps) (upto + 1) us) (sym more.unsure_are) are_unsure;
+    wrong = subst (λ ws. AreAllBelow (IsRefused steps) (upto + 1) ws) (sym more.wrong_are) are_wrong;
   }
 
-  pub unsure_more : (step.kind ≡ kinds.Hit) → ReadsSeveral steps step → AreSureOwners steps (upto + 1) (owners ++ upto ∷ []) (unsure ++ upto ∷ [])
-  unsure_more hit several = record {
-    count = let l = length_push owners upto in let c = had.count in omega arith;
-    owned = owned_more upto (inl (refl, λ _. several));
-    are_unsure = All-push (IsUnsure steps) unsure upto had.are_unsure (record { step = step; at = at; kind = hit; several = several });
-    all = λ p less one. elim (cases_eq p upto) [
-      | inl same ↦ subst (λ q. Contains (unsure ++ upto ∷ []) q) (sym same) (Contains-push unsure upto)
-      | inr other ↦ Contains-append_left unsure (upto ∷ []) p (had.all p (omega arith) one)
-    ];
-    rise = all_pairs_push (λ a b. a < b) unsure upto had.rise (λ k d less. had.below k d less);
-    below = All-push (λ p. p < upto + 1) unsure upto (All-weaker (λ p. p < upto) (λ p. p < upto + 1) (λ p h. omega arith) unsure had.below) (omega arith);
-  }
+  -- the hits that are unsure or wrong stay the same, or there is one more
+  unsure_same : ¬ ReadsSeveral steps step → AreAllBelow (IsUnsure steps) (upto + 1) old.unsure.items
+  unsure_same not = all_below_pass (IsUnsure steps) upto old.unsure.items had.unsure (λ one. not (subst (λ s. ReadsSeveral steps s) (same_at steps upto upto one.step step refl one.at at) one.several))
 
-  -- no hit is sure
-  pub itself_more : ¬ (step.kind ≡ kinds.Hit) → AreSureOwners steps (upto + 1) (owners ++ upto ∷ []) unsure
-  itself_more no_hit = owner_more upto (inl (refl, λ hit. absurd (no_hit hit))) (λ one. no_hit (ap (λ (s : NumberedCall). s.kind) (same_at steps upto upto step one.step refl at one.at) ∙ one.kind))
+  wrong_same : ¬ ReadsNoLive steps step → AreAllBelow (IsRefused steps) (upto + 1) old.wrong.items
+  wrong_same not = all_below_pass (IsRefused steps) upto old.wrong.items had.wrong (λ one. not (subst (λ s. ReadsNoLive steps s) (same_at steps upto upto one.step step refl one.at at) one.none))
+
+  itself_more : ¬ (step.kind ≡ kinds.Hit) → HasOneMore old new upto old.unsure.items old.wrong.items → AreKnownOwners steps (upto + 1) new
+  itself_more no_hit more = known_more upto old.unsure.items old.wrong.items more (inl (inl (refl, λ hit. absurd (no_hit hit))))
+      (all_below_pass (IsUnsure steps) upto old.unsure.items had.unsure (λ one. no_hit (ap (λ (s : NumberedCall). s.kind) (same_at steps upto upto step one.step refl at one.at) ∙ one.kind)))
+      (all_below_pass (IsRefused steps) upto old.wrong.items had.wrong (λ one. no_hit (ap (λ (s : NumberedCall). s.kind) (same_at steps upto upto step one.step refl at one.at) ∙ one.kind)))
 
   -- a hit that may have read one put alone is sure
-  pub put_more : (owner : ℕ) → (step.kind ≡ kinds.Hit) → ReadsOnly steps step owner → AreSureOwners steps (upto + 1) (owners ++ owner ∷ []) unsure
-  put_more owner hit only = owner_more owner (inr (hit, only)) (λ one.
-      let two : ReadsSeveral steps step = subst (λ s. ReadsSeveral steps s) (same_at steps upto upto one.step step refl one.at at) one.several in
-      two.apart (only.only two.one two.first two.one_at two.holds_one ∙ sym (only.only two.other two.second two.other_at two.holds_other)))
+  put_more : (owner : ℕ) → (step.kind ≡ kinds.Hit) → ReadsOnly steps step owner → HasOneMore old new owner old.unsure.items old.wrong.items → AreKnownOwners steps (upto + 1) new
+  put_more owner hit only more = known_more owner old.unsure.items old.wrong.items more (inl (inr (hit, only)))
+      (unsure_same (λ two. two.apart (only.only two.one two.first two.one_at two.holds_one ∙ sym (only.only two.other two.second two.other_at two.holds_other))))
+      (wrong_same (reads_some steps step only.put owner only.at only.reads))
 
--- ---- an owner is noted
+  several_more : (step.kind ≡ kinds.Hit) → ReadsSeveral steps step → HasOneMore old new upto (old.unsure.items ++ upto ∷ []) old.wrong.items → AreKnownOwners steps (upto + 1) new
+  several_more hit several more = known_more upto (old.unsure.items ++ upto ∷ []) old.wrong.items more (inl (inl (refl, λ _. several)))
+      (all_below_push (IsUnsure steps) upto old.unsure.items had.unsure (record { step = step; at = at; kind = hit; several = several }))
+      (wrong_same (reads_some steps step several.first several.one several.one_at several.holds_one))
 
-noted_is : (steps : List NumberedCall) (upto : ℕ) (owners unsure new new_unsure : List ℕ) (step : NumberedCall) (owner : Owner) → AreSureOwners steps upto owners unsure → slice_get steps upto ≡ Some step → IsOwner steps step owner → IsNoted upto owner owners new unsure new_unsure true → AreSureOwners steps (upto + 1) new new_unsure
-noted_is steps upto owners unsure new new_unsure step kinds_of_owner.Itself had at is noted =
-    subst (λ o. AreSureOwners steps (upto + 1) o new_unsure) (sym noted.1) (subst (λ u. AreSureOwners steps (upto + 1) (owners ++ upto ∷ []) u) (sym noted.2) (itself_more steps upto owners unsure had step at is))
-noted_is steps upto owners unsure new new_unsure step (kinds_of_owner.Put put) had at is noted =
-    subst (λ o. AreSureOwners steps (upto + 1) o new_unsure) (sym noted.1) (subst (λ u. AreSureOwners steps (upto + 1) (owners ++ put ∷ []) u) (sym noted.2) (put_more steps upto owners unsure had step at put is.0 is.1))
-noted_is steps upto owners unsure new new_unsure step kinds_of_owner.Unsure had at is noted =
-    subst (λ o. AreSureOwners steps (upto + 1) o new_unsure) (sym noted.1) (subst (λ u. AreSureOwners steps (upto + 1) (owners ++ upto ∷ []) u) (sym noted.2) (unsure_more steps upto owners unsure had step at is.0 is.1))
-noted_is steps upto owners unsure new new_unsure step kinds_of_owner.Nothing had at is noted = let h : true ≡ false = noted in cc
+  nothing_more : (step.kind ≡ kinds.Hit) → ReadsNoLive steps step → HasOneMore old new upto old.unsure.items (old.wrong.items ++ upto ∷ []) → AreKnownOwners steps (upto + 1) new
+  nothing_more hit none more = known_more upto old.unsure.items (old.wrong.items ++ upto ∷ []) more (inr (refl, hit, none))
+      (unsure_same (λ two. reads_some steps step two.first two.one two.one_at two.holds_one none))
+      (all_below_push (IsRefused steps) upto old.wrong.items had.wrong (record { step = step; at = at; kind = hit; none = none }))
 
-pub noted_more : (steps : List NumberedCall) (upto : ℕ) (owners unsure new new_unsure : List ℕ) (owner : Owner) → AreSureOwners steps upto owners unsure → IsOwnerAt steps upto owner → IsNoted upto owner owners new unsure new_unsure true → AreSureOwners steps (upto + 1) new new_unsure
-noted_more steps upto owners unsure new new_unsure owner had is noted = noted_is steps upto owners unsure new new_unsure is.step owner had is.at is.is noted
+  noted_is : (owner : Owner) → IsOwner steps step owner → IsNoted upto owner old new → AreKnownOwners steps (upto + 1) new
+  noted_is kinds_of_owner.Itself is noted = itself_more is noted
+  noted_is (kinds_of_owner.Put put) is noted = put_more put is.0 is.1 noted
+  noted_is kinds_of_owner.Unsure is noted = several_more is.0 is.1 noted
+  noted_is kinds_of_owner.Nothing is noted = nothing_more is.0 is.1 noted
 
-refused_is : (steps : List NumberedCall) (upto : ℕ) (owners unsure new new_unsure : List ℕ) (step : NumberedCall) (owner : Owner) → slice_get steps upto ≡ Some step → IsOwner steps step owner → IsNoted upto owner owners new unsure new_unsure false → IsRefused steps upto
-refused_is steps upto owners unsure new new_unsure step kinds_of_owner.Itself at is noted = let h : false ≡ true = noted.0 in cc
-refused_is steps upto owners unsure new new_unsure step (kinds_of_owner.Put put) at is noted = let h : false ≡ true = noted.0 in cc
-refused_is steps upto owners unsure new new_unsure step kinds_of_owner.Unsure at is noted = let h : false ≡ true = noted.0 in cc
-refused_is steps upto owners unsure new new_unsure step kinds_of_owner.Nothing at is noted = record { step = step; at = at; kind = is.0; none = is.1 }
+pub noted_more : (steps : List NumberedCall) (upto : ℕ) (old new : Owners) (owner : Owner) → AreKnownOwners steps upto old → IsOwnerAt steps upto owner → IsNoted upto owner old new → AreKnownOwners steps (upto + 1) new
+noted_more steps upto old new owner had is noted = noted_is steps upto old new had is.step is.at owner is.is noted
 
-pub refused : (steps : List NumberedCall) (upto : ℕ) (owners unsure new new_unsure : List ℕ) (owner : Owner) → IsOwnerAt steps upto owner → IsNoted upto owner owners new unsure new_unsure false → IsRefused steps upto
-refused steps upto owners unsure new new_unsure owner is noted = refused_is steps upto owners unsure new new_unsure is.step owner is.at is.is noted
+-- each call is sure of its owner, if no hit is wrong
+pub all_sure : (steps : List NumberedCall) (owners : Owners) → AreKnownOwners steps (length steps) owners → owners.wrong.items ≡ [] → AreSureOwners steps (length steps) owners.owners.items owners.unsure.items
+all_sure steps owners own none = record {
+  count = own.count;
+  owned = λ p step owner at owner_at. elim (own.owned p step owner at owner_at) [
+    | inl sure ↦ sure
+    | inr wrong ↦
+        let listed = own.wrong.all p (slice_get_within steps p step at) (record { step = step; at = at; kind = wrong.1; none = wrong.2 }) in
+        let in_none = subst (λ ws. Contains ws p) none listed in
+        let less : in_none.0 < 0 = in_none.1 in
+        absurd (omega arith)
+  ];
+  are_unsure = own.unsure.each;
+  all = own.unsure.all;
+  rise = own.unsure.rise;
+  below = own.unsure.below;
+}

@@ -1,13 +1,13 @@
 -- Items in the order of their ranks.
-use Rattle.std.proofs.Common.{◌≡◌, ℕ, ◌^◌, ◌<◌, ◌≤◌, true, false, leb, Some, List, length, get_or, subst, arith}
+use Rattle.std.proofs.Common.{◌≡◌, ℕ, ◌^◌, ◌<◌, ◌≤◌, true, false, leb, ltb, Some, List, length, get_or, subst, arith}
 use Rattle.std.specs.Prelude.{slice_get}
 use Rattle.std.specs.List.{AllWithin}
 use Rattle.std.specs.List.Sorted.{IsNonDecreasingBy}
-use Rattle.std.proofs.lemmas.Bool.{leb-true}
+use Rattle.std.proofs.lemmas.Bool.{leb-true, ltb-true}
 use Rattle.std.proofs.lemmas.Bool.Decides.{nat_tests}
 use Rattle.std.proofs.lemmas.Option.{get_or_from_slice_get, slice_get_within}
 use Rattle.certificate_finder.specs.Putting.{value_rank}
-use Rattle.certificate_finder.specs.Writing.{IsSplit, key_rank}
+use Rattle.certificate_finder.specs.Writing.{IsSplit, IsSplitBelow, key_rank}
 
 -- a later item has no lesser rank
 pub rank_at : {X : Type 0} (rank : X → ℕ) (xs : List X) (i j : ℕ) (x y : X) → IsNonDecreasingBy rank xs → i ≤ j → slice_get xs i ≡ Some x → slice_get xs j ≡ Some y → rank x ≤ rank y
@@ -23,6 +23,16 @@ split_from_point rank xs limit i le low high = record {
   bound = le;
   low = λ k x less at. leb-true (rank x) limit (subst (λ y. leb (rank y) limit ≡ true) (get_or_from_slice_get xs k x x at) (low k x (omega arith) less));
   high = λ k x more at. not_leb (rank x) limit (subst (λ y. leb (rank y) limit ≡ false) (get_or_from_slice_get xs k x x at) (high k x more (slice_get_within xs k x at)));
+}
+
+not_ltb : (a b : ℕ) → ltb a b ≡ false → b ≤ a
+not_ltb a b h = grind (arith, nat_tests)
+
+pub split_below_point : {X : Type 0} (rank : X → ℕ) (xs : List X) (limit i : ℕ) → i ≤ length xs → AllWithin (λ y. ltb (rank y) limit ≡ true) xs 0 i → AllWithin (λ y. ltb (rank y) limit ≡ false) xs i (length xs) → IsSplitBelow rank xs limit i
+split_below_point rank xs limit i le low high = record {
+  bound = le;
+  low = λ k x less at. ltb-true (rank x) limit (subst (λ y. ltb (rank y) limit ≡ true) (get_or_from_slice_get xs k x x at) (low k x (omega arith) less));
+  high = λ k x more at. not_ltb (rank x) limit (subst (λ y. ltb (rank y) limit ≡ false) (get_or_from_slice_get xs k x x at) (high k x more (slice_get_within xs k x at)));
 }
 
 -- a lesser rank is of no greater key

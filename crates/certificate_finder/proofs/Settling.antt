@@ -7,8 +7,6 @@ use Rattle.record_pages.specs.Expiry.{is_live}
 use Rattle.trace_file.specs.Calls.{time_of}
 use Rattle.trace_file.specs.declared.act.Act.TheVariants.{Put, Hit}
 use Rattle.trace_file.specs.declared.call.Call.{Call}
-use Rattle.certificate_checker.specs.Deeds.{deed_of}
-use Rattle.certificate_checker.specs.Latest.{Writes}
 use Rattle.certificate_checker.specs.Orders.{Precedes}
 use Rattle.certificate_checker.proofs.public_laws.Laying.{cases_before}
 use Rattle.certificate_checker.proofs.public_laws.Listing.{all_member, member_contained, member_map}
@@ -20,17 +18,17 @@ use Rattle.certificate_finder.specs.declared.witness.Witness.{Witness}
 use Rattle.certificate_finder.specs.declared.witness.Witness.TheVariants as witnesses
 use Rattle.certificate_finder.specs.declared.zone.Zone.{Zone}
 use Rattle.certificate_finder.specs.Finding.{AreUndecided, IsOfListed}
-use Rattle.certificate_finder.specs.Lists.{IsTold}
 use Rattle.certificate_finder.specs.Owning.{AreSureOwners, IsUnsure}
 use Rattle.certificate_finder.specs.Reads.{CouldRead, HasBegun, HasSeveral, LivesFor, StandsBetween}
-use Rattle.certificate_finder.specs.Steps.{AreSteps, IsWriting, kind_of}
+use Rattle.certificate_finder.specs.Steps.{AreSteps, kind_of}
 use Rattle.certificate_finder.specs.Trying.{HasStuckKey}
 use Rattle.certificate_finder.specs.Witnesses.{AreCrossed, GoesWith, IsExcluded, IsSide, IsWitness, ReadsNone}
 use Rattle.certificate_finder.specs.Zones.{AreZones, FollowOn, Goes, TellsZone}
 use Rattle.certificate_finder.proofs.EndLemmas.{found_at}
 use Rattle.certificate_finder.proofs.Excluding.{not_this}
-use Rattle.certificate_finder.proofs.FindLemmas.{could_of, has_several, several_of, step_at, writing_of}
+use Rattle.certificate_finder.proofs.FindLemmas.{could_of, has_several, several_of, step_at}
 use Rattle.certificate_finder.proofs.Listing.{all_at, index_of, pair_at, same_at}
+use Rattle.certificate_finder.proofs.TryingLemmas.{ends_by, starts_by, zone_of}
 
 -- a put is live for a hit, whichever way the two were found
 live_of : (history : List Call) (hit put : ℕ) (lives : LivesFor history hit put) (has : HasBegun history hit put) → IsTrue (is_live has.expires has.moment)
@@ -95,45 +93,21 @@ module _ (history : List Call) (steps : List NumberedCall) (are : AreSteps histo
   -- ---- no two writes are crossed but by a listed hit
 
   module _ (zones : List Zone) (zs : AreZones steps owners zones) (follow : AllPairs FollowOn zones) where
-    -- a zone ends for some call no later, and starts for some call no earlier, than any call that goes with its write
-    ends_by : (write q : ℕ) (step : NumberedCall) (zone : Zone) (call : Call) → TellsZone steps owners write step zone → Goes owners write q → slice_get history q ≡ Some call → zone.end ≤ call.end
-    ends_by write q step zone call tells goes at =
-        let s = step_at history steps are q call at in
-        let le = tells.earliest.least q s.0 s.1 goes in
-        let a = tells.end in
-        let b = s.2.end in
-        omega arith
-
-    starts_by : (write q : ℕ) (step : NumberedCall) (zone : Zone) (call : Call) → TellsZone steps owners write step zone → Goes owners write q → slice_get history q ≡ Some call → call.start ≤ zone.start
-    starts_by write q step zone call tells goes at =
-        let s = step_at history steps are q call at in
-        let le = tells.latest.greatest q s.0 s.1 goes in
-        let a = tells.start in
-        let b = s.2.start in
-        omega arith
-
-    -- the zone of a write of a key
-    zone_of : (key : List ℕ) (write : ℕ) → IsSomeAnd (slice_get history write) (λ w. Writes (deed_of w) key) → (call : Call) × (step : NumberedCall) × (slice_get history write ≡ Some call) × (slice_get steps write ≡ Some step) × (call.key ≡ key) × IsTold (TellsZone steps owners) zones write step
-    zone_of key write writes =
-        let w = some_and (slice_get history write) (λ w. Writes (deed_of w) key) writes in
-        let s = step_at history steps are write w.0 w.1 in
-        (w.0, s.0, w.1, s.1, w.2.0, zs.lists.complete write s.0 (slice_get_within steps write s.0 s.1) s.1 (subst IsWriting (sym s.2.kind) (writing_of w.0.act w.2.1)))
-
     -- if one side's zone stands first, no call of the other side precedes one of it
     in_order : (key : List ℕ) (one other : Side) (s t : NumberedCall) (v w : Zone) (i j : ℕ) → i < j → slice_get zones i ≡ Some v → slice_get zones j ≡ Some w → v.key ≡ w.key → TellsZone steps owners one.write s v → TellsZone steps owners other.write t w → Goes owners one.write one.late → Goes owners other.write other.early → ¬ IsSide history key other one
     in_order key one other s t v w i j less at_i at_j keys tells others late_goes early_goes second =
         let fits = pair_at FollowOn zones i j v w follow less at_i at_j keys in
         let early = some_and (slice_get history other.early) (λ early. IsSomeAnd (slice_get history one.late) (λ late. Precedes early late)) second.precedes in
         let late = some_and (slice_get history one.late) (λ late. Precedes early.0 late) early.2 in
-        let a = ends_by other.write other.early t w early.0 others early_goes early.1 in
-        let b = starts_by one.write one.late s v late.0 tells late_goes late.1 in
+        let a = ends_by history steps are owners zones zs other.write other.early t w early.0 others early_goes early.1 in
+        let b = starts_by history steps are owners zones zs one.write one.late s v late.0 tells late_goes late.1 in
         let c = late.2 in
         omega arith
 
     not_crossed : (one other : Side) → AreCrossed history one other → Goes owners one.write one.early → Goes owners one.write one.late → Goes owners other.write other.early → Goes owners other.write other.late → ⊥
     not_crossed one other c one_early one_late other_early other_late =
-        let v = zone_of c.key one.write c.first.writes in
-        let w = zone_of c.key other.write c.second.writes in
+        let v = zone_of history steps are owners zones zs c.key one.write c.first.writes in
+        let w = zone_of history steps are owners zones zs c.key other.write c.second.writes in
         let i = index_of zones v.5.item v.5.listed in
         let j = index_of zones w.5.item w.5.listed in
         let alike = are.alike one.write other.write v.0 w.0 v.1 w.1 v.2 w.2 v.3 w.3 in

@@ -9,7 +9,7 @@ use Rattle.trace_file.specs.declared.call.Call.{Call}
 use Rattle.certificate_checker.specs.Deeds.{deed_of}
 use Rattle.certificate_checker.specs.Latest.{Writes}
 use Rattle.certificate_checker.specs.Orders.{Precedes}
-use Rattle.certificate_checker.proofs.public_laws.Lookups.{and_some}
+use Rattle.certificate_checker.proofs.public_laws.Lookups.{and_some, some_and}
 use Rattle.certificate_finder.specs.declared.call_kind.CallKind.TheVariants as kinds
 use Rattle.certificate_finder.specs.declared.numbered_call.NumberedCall.{NumberedCall}
 use Rattle.certificate_finder.specs.declared.offer.Offer.{Offer}
@@ -21,17 +21,17 @@ use Rattle.certificate_finder.specs.declared.zone.Zone.{Zone}
 use Rattle.certificate_finder.specs.Choosing.{ChoosesBy, ComesBefore, IsChosen, IsOffer, IsZoneOf, all_rules, cost_of}
 use Rattle.certificate_finder.specs.Deciding.{FailsAt, NoneGives}
 use Rattle.certificate_finder.specs.Lining.{positions_in}
-use Rattle.certificate_finder.specs.Lists.{TellsOne}
+use Rattle.certificate_finder.specs.Lists.{IsTold, TellsOne}
 use Rattle.certificate_finder.specs.Offering.{HitsInTurn, ReadsIn, times_in}
-use Rattle.certificate_finder.specs.Owning.{AreSureOwners, IsUnsure, ReadsLive}
+use Rattle.certificate_finder.specs.Owning.{AreSureOwners, IsKnownOwner, IsUnsure, ReadsLive}
 use Rattle.certificate_finder.specs.Reads.{CouldRead, HasSeveral}
 use Rattle.certificate_finder.specs.Steps.{AreSteps, IsWriting, kind_of}
-use Rattle.certificate_finder.specs.Trying.{AreCrossedBy, AreInTurn, AreSure, GivesNoneAt, HasStuckKey, IsSideBy, times_at}
+use Rattle.certificate_finder.specs.Trying.{AreCrossedBy, AreInTurn, AreSure, GivesNoneAt, HasStuckKey, IsSideBy, IsSure, times_at}
 use Rattle.certificate_finder.specs.Turns.{end_at, start_at}
 use Rattle.certificate_finder.specs.Writing.{Writing}
 use Rattle.certificate_finder.specs.Zones.{AreCrossedAt, AreCrossing, AreZones, Goes, TellsZone, side_of}
 use Rattle.certificate_finder.proofs.EndLemmas.{found_at}
-use Rattle.certificate_finder.proofs.FindLemmas.{call_at, could_by, could_of, has_several, reads_of, several_of, step_at, write_of}
+use Rattle.certificate_finder.proofs.FindLemmas.{call_at, could_by, could_of, has_several, reads_of, several_of, step_at, write_of, writing_of}
 use Rattle.certificate_finder.proofs.Listing.{all_at, all_from_at, contains_at, pair_at, pairs_from_at, same_at}
 use Rattle.certificate_finder.proofs.OfferLemmas.{end_is, start_is}
 
@@ -94,7 +94,7 @@ module _ (rule : Rule) (R S : ℕ → ℕ → Type 0) (t u : ℕ → CallSpan) (
 module _ (history : List Call) (steps : List NumberedCall) (are : AreSteps history steps) where
   -- ---- times and puts of a history
 
-  times_same : (p : ℕ) → times_in steps p ≡ times_at history p
+  pub times_same : (p : ℕ) → times_in steps p ≡ times_at history p
   times_same p =
       let count = are.count in
       elim (cases_lt p (length steps)) [
@@ -131,30 +131,37 @@ module _ (history : List Call) (steps : List NumberedCall) (are : AreSteps histo
 
   -- ---- sure owners
 
-  pub are_sure : (owners unsure : List ℕ) → AreSureOwners steps (length steps) owners unsure → AreSure history owners
-  are_sure owners unsure own = record {
-    count = own.count ∙ are.count;
+  pub are_sure : (owners : List ℕ) → length owners ≡ length steps → ((p : ℕ) (step : NumberedCall) (owner : ℕ) → slice_get steps p ≡ Some step → slice_get owners p ≡ Some owner → IsKnownOwner steps p step owner) → AreSure history owners
+  are_sure owners count owned = record {
+    count = count ∙ are.count;
     each = λ p owner at.
         let within = slice_get_within owners p owner at in
-        let count = own.count in
         let s = found_at steps p (omega arith) in
-        elim (own.owned p s.0 owner s.1 at) [
-          | inl alone ↦ inr (
-            alone.0,
-            λ put sure.
-                let r = reads_in p put sure.could in
-                let one : r.asked ≡ s.0 = same_at steps p p r.asked s.0 refl r.asked_at s.1 in
-                let kind : s.0.kind ≡ kinds.Hit = subst (λ (x : NumberedCall). x.kind ≡ kinds.Hit) one r.kind in
-                let two = has_several history steps are p (record { step = s.0; at = s.1; kind = kind; several = alone.1 kind }) in
-                two.apart (sure.only two.one two.first ∙ sym (sure.only two.other two.second)),
+        let asked : (put : ℕ) (sure : IsSure history p put) → (given : NumberedCall) × (slice_get steps put ≡ Some given) × (s.0.kind ≡ kinds.Hit) × ReadsLive steps s.0 given = λ put sure.
+        let r = reads_in p put sure.could in
+        let one : r.asked ≡ s.0 = same_at steps p p r.asked s.0 refl r.asked_at s.1 in
+        (r.given, r.given_at, subst (λ (x : NumberedCall). x.kind ≡ kinds.Hit) one r.kind, subst (λ x. ReadsLive steps x r.given) one r.reads) in
+        elim (owned p s.0 owner s.1 at) [
+          | inl sure_one ↦ elim sure_one [
+            | inl alone ↦ inr (
+              alone.0,
+              λ put sure.
+                  let kind = (asked put sure).2 in
+                  let two = has_several history steps are p (record { step = s.0; at = s.1; kind = kind; several = alone.1 kind }) in
+                  two.apart (sure.only two.one two.first ∙ sym (sure.only two.other two.second)),
+            )
+            | inr only ↦ inl (record {
+              could = could_of history steps are p owner s.0 s.1 only.0 only.1;
+              only = λ other could.
+                  let r = reads_in p other could in
+                  let one : r.asked ≡ s.0 = same_at steps p p r.asked s.0 refl r.asked_at s.1 in
+                  only.1.only other r.given r.given_at (subst (λ x. ReadsLive steps x r.given) one r.reads);
+            })
+          ]
+          | inr wrong ↦ inr (
+            wrong.0,
+            λ put sure. let given = asked put sure in wrong.2 put given.0 given.1 given.3.may given.3.live,
           )
-          | inr only ↦ inl (record {
-            could = could_of history steps are p owner s.0 s.1 only.0 only.1;
-            only = λ other could.
-                let r = reads_in p other could in
-                let one : r.asked ≡ s.0 = same_at steps p p r.asked s.0 refl r.asked_at s.1 in
-                only.1.only other r.given r.given_at (subst (λ x. ReadsLive steps x r.given) one r.reads);
-          })
         ];
   }
 
@@ -177,6 +184,30 @@ module _ (history : List Call) (steps : List NumberedCall) (are : AreSteps histo
   -- ---- writes that are crossed by a choice
 
   module _ (owners : List ℕ) (zones : List Zone) (zs : AreZones steps owners zones) where
+    -- a zone ends for some call no later, and starts for some call no earlier, than any call that goes with its write
+    pub ends_by : (write q : ℕ) (step : NumberedCall) (zone : Zone) (call : Call) → TellsZone steps owners write step zone → Goes owners write q → slice_get history q ≡ Some call → zone.end ≤ call.end
+    ends_by write q step zone call tells goes at =
+        let s = step_at history steps are q call at in
+        let le = tells.earliest.least q s.0 s.1 goes in
+        let a = tells.end in
+        let b = s.2.end in
+        omega arith
+
+    pub starts_by : (write q : ℕ) (step : NumberedCall) (zone : Zone) (call : Call) → TellsZone steps owners write step zone → Goes owners write q → slice_get history q ≡ Some call → call.start ≤ zone.start
+    starts_by write q step zone call tells goes at =
+        let s = step_at history steps are q call at in
+        let le = tells.latest.greatest q s.0 s.1 goes in
+        let a = tells.start in
+        let b = s.2.start in
+        omega arith
+
+    -- the zone of a write of a key
+    pub zone_of : (key : List ℕ) (write : ℕ) → IsSomeAnd (slice_get history write) (λ w. Writes (deed_of w) key) → (call : Call) × (step : NumberedCall) × (slice_get history write ≡ Some call) × (slice_get steps write ≡ Some step) × (call.key ≡ key) × IsTold (TellsZone steps owners) zones write step
+    zone_of key write writes =
+        let w = some_and (slice_get history write) (λ w. Writes (deed_of w) key) writes in
+        let s = step_at history steps are write w.0 w.1 in
+        (w.0, s.0, w.1, s.1, w.2.0, zs.lists.complete write s.0 (slice_get_within steps write s.0 s.1) s.1 (subst IsWriting (sym s.2.kind) (writing_of w.0.act w.2.1)))
+
     side_by : (one other : Zone) (key : List ℕ) (v : Call) → (tells : TellsOne steps Writing (TellsZone steps owners) one) → (others : TellsOne steps Writing (TellsZone steps owners) other) → slice_get history tells.position ≡ Some v → v.key ≡ key → one.end < other.start → IsSideBy history owners key (side_of one) (side_of other)
     side_by one other key v tells others at same less =
         let here : one.write ≡ tells.position = tells.told.write in
@@ -194,7 +225,7 @@ module _ (history : List Call) (steps : List NumberedCall) (are : AreSteps histo
           precedes = and_some (slice_get history one.early) (λ e. IsSomeAnd (slice_get history other.late) (λ l. Precedes e l)) early.0 early.1 (and_some (slice_get history other.late) (λ l. Precedes early.0 l) late.0 late.1 (omega arith));
         }
 
-    crossed_by_choice : (one other : Zone) → AreCrossing zones (record { one = one; other = other }) → AreCrossedBy history owners (side_of one) (side_of other)
+    pub crossed_by_choice : (one other : Zone) → AreCrossing zones (record { one = one; other = other }) → AreCrossedBy history owners (side_of one) (side_of other)
     crossed_by_choice one other crossing =
         let t = All-contains (TellsOne steps Writing (TellsZone steps owners)) zones one zs.lists.sound crossing.one_listed in
         let o = All-contains (TellsOne steps Writing (TellsZone steps owners)) zones other zs.lists.sound crossing.other_listed in
@@ -227,7 +258,7 @@ module _ (history : List Call) (steps : List NumberedCall) (are : AreSteps histo
         owners = owners;
         hits = positions_in hits;
         chosen = fails.chosen;
-        sure = are_sure owners unsure own;
+        sure = are_sure owners own.count (λ p s o at_s at_o. inl (own.owned p s o at_s at_o));
         in_turn = are_in_turn owners unsure hits own turned;
         by_rule = chooses_same rule (ReadsIn steps) (CouldRead history) (times_in steps) (times_at history) times_same could_read reads_in owners (positions_in hits) fails.chosen fails.by_rule;
         one = side_of crossing.one;

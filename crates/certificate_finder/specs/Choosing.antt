@@ -67,8 +67,10 @@ ChoosesBy rule reads times owners [] chosen = chosen ≡ owners
 ChoosesBy rule reads times owners (hit ∷ hits) chosen =
     (put : ℕ) × IsChosen rule reads times owners hit put × ChoosesBy rule reads times (slice_set owners hit put) hits chosen
 
+-- a position comes before another one by their stamps: its stamp is less, or the stamps are the same and the position is less
+abbrev pub IsEarlierBy : (ℕ → ℕ) → ℕ → ℕ → Type 0
+IsEarlierBy stamp one other = (stamp one < stamp other) ⊎ ((stamp one ≡ stamp other) × (one < other))
+
 -- a hit gets its put before another one: it started earlier, or at the same stamp and has the earlier position
 abbrev pub ComesBefore : (ℕ → CallSpan) → ℕ → ℕ → Type 0
-ComesBefore times one other =
-    ((times one).start < (times other).start)
-    ⊎ (((times one).start ≡ (times other).start) × (one < other))
+ComesBefore times = IsEarlierBy (λ position. (times position).start)

@@ -1,9 +1,10 @@
 -- Why a hit can have read no put, in numbers.
-use Rattle.std.specs.Prelude.{◌≡◌, ℕ, ◌<◌, ◌≤◌, ◌⊎◌, List, [], ◌∷◌, ◌++◌, All, Contains, map, slice_get, None, Some, IsTrue}
+use Rattle.std.specs.Prelude.{◌≡◌, ℕ, ◌<◌, ◌≤◌, ◌⊎◌, List, All, Contains, map, slice_get, None, Some, IsTrue}
 use Rattle.record_pages.specs.Expiry.{is_live}
 use Rattle.certificate_finder.specs.declared.excluded.Excluded.{Excluded}
 use Rattle.certificate_finder.specs.declared.excluded.Excuse.{Excuse}
 use Rattle.certificate_finder.specs.declared.excluded.Excuse.TheVariants.{Later, Expired, Replaced}
+use Rattle.certificate_finder.specs.declared.faults.WrongHit.{WrongHit}
 use Rattle.certificate_finder.specs.declared.call_kind.CallKind.TheVariants as kinds
 use Rattle.certificate_finder.specs.declared.put.Put.{Put}
 use Rattle.certificate_finder.specs.declared.numbered_call.NumberedCall.{NumberedCall}
@@ -46,8 +47,7 @@ pub record AreExcludedAt (steps : List NumberedCall) (position : ℕ) (excluded 
   pub kind : hit.kind ≡ kinds.Hit
   pub puts : AreExcluded steps hit excluded
 
--- a list has a put more with its excuse, if the put is of the hit's key and value, and otherwise is as it was
-abbrev pub GrowsByExcluded : Put → NumberedCall → List Excluded → List Excluded → Type 0
-GrowsByExcluded put hit old new =
-    (((put.key ≡ hit.key) × (put.value ≡ hit.value)) × ((why : Excuse) × IsExcuse put hit why × (new ≡ old ++ record { put = put.position; why = why } ∷ [])))
-    ⊎ ((¬ ((put.key ≡ hit.key) × (put.value ≡ hit.value))) × (new ≡ old))
+-- the hits at these positions, each with all puts of its key and value, each excluded
+pub record AreWrongAt (steps : List NumberedCall) (positions : List ℕ) (hits : List WrongHit) : Type 0 where
+  pub same : map (λ (wrong : WrongHit). wrong.hit) hits ≡ positions
+  pub each : All (λ (wrong : WrongHit). AreExcludedAt steps wrong.hit wrong.puts.items) hits

@@ -1,13 +1,15 @@
 -- What is found for a history.
-use Rattle.std.specs.Prelude.{◌≢◌, ℕ, ◌<◌, ◌≤◌, ◌⊎◌, List, [], All, AllPairs, Contains, IsSomeAnd, MatchOption, Option, slice_get}
+use Rattle.std.specs.Prelude.{◌≡◌, ◌≢◌, ℕ, ◌<◌, ◌≤◌, ◌⊎◌, List, [], All, AllPairs, Contains, IsSomeAnd, slice_get}
 use Rattle.trace_file.specs.declared.call.Call.{Call}
 use Rattle.certificate_checker.specs.Acceptance.{IsAccepted}
 use Rattle.certificate_finder.specs.declared.found.Found.{Found}
 use Rattle.certificate_finder.specs.declared.found.Found.TheVariants.{Accepted, Rejected, Undecided}
 use Rattle.certificate_finder.specs.declared.witness.Witness.{Witness}
 use Rattle.certificate_finder.specs.declared.witness.Witness.TheVariants as witnesses
-use Rattle.certificate_finder.specs.Reads.{HasSeveral}
+use Rattle.certificate_finder.specs.Choosing.{IsEarlierBy}
+use Rattle.certificate_finder.specs.Reads.{HasNone, HasSeveral}
 use Rattle.certificate_finder.specs.Trying.{HasStuckKey}
+use Rattle.certificate_finder.specs.Turns.{end_at}
 use Rattle.certificate_finder.specs.Witnesses.{IsWitness}
 
 -- a reason speaks of a hit that is listed
@@ -43,12 +45,23 @@ IfUndecided (Accepted certificate) P = Unit {0}
 IfUndecided (Rejected witness) P = Unit {0}
 IfUndecided (Undecided hits) P = P hits.items
 
+-- the call at a position ends before it starts
+abbrev pub IsReversed : List Call → ℕ → Type 0
+IsReversed history position = IsSomeAnd (slice_get history position) (λ call. call.end < call.start)
+
+-- no call ends before it starts
+abbrev pub AreForward : List Call → Type 0
+AreForward history = All (λ call. call.start ≤ call.end) history
+
+-- of the reasons that a history has this kind is told, and this call: the first one in the history that ends before it starts; if there is none, of the hits that can have read no put the one that ends first, of those that end at one stamp the first in the history; crossed writes only if there is neither
+abbrev pub IsToldFirst : List Call → Witness → Type 0
+IsToldFirst history (witnesses.Interval position) = (other : ℕ) → IsReversed history other → position ≤ other
+IsToldFirst history (witnesses.Hit hit puts) = AreForward history × ((other : ℕ) → HasNone history other → (other ≡ hit) ⊎ IsEarlierBy (end_at history) hit other)
+IsToldFirst history (witnesses.Crossed one other) = AreForward history × ((hit : ℕ) → ¬ HasNone history hit)
+
 -- what was found holds of the history
 pub record IsFound (history : List Call) (found : Found) : Type 0 where
   pub accepted : IfAccepted found (IsAccepted history)
   pub rejected : IfRejected found (IsWitness history)
+  pub first : IfRejected found (IsToldFirst history)
   pub undecided : IfUndecided found (AreUndecided history)
-
--- a call that ends before it starts, or none does
-abbrev pub IsIntervalOrNone : List Call → Option ℕ → Type 0
-IsIntervalOrNone history position = MatchOption position (All (λ call. call.start ≤ call.end) history) (λ p. IsSomeAnd (slice_get history p) (λ call. call.end < call.start))

@@ -1,12 +1,14 @@
 -- What the hits of a history can have read.
 use Rattle.std.specs.Prelude.{List, length}
-use Rattle.certificate_finder.specs.declared.read_result.ReadResult.{ReadResult}
-use Rattle.certificate_finder.specs.declared.read_result.ReadResult.TheVariants.{Each, Refused}
+use Rattle.certificate_finder.specs.declared.hit_reads.HitReads.{HitReads}
 use Rattle.certificate_finder.specs.declared.numbered_call.NumberedCall.{NumberedCall}
-use Rattle.certificate_finder.specs.Excluding.{AreExcludedAt}
-use Rattle.certificate_finder.specs.Owning.{AreSureOwners}
+use Rattle.certificate_finder.specs.declared.stamp.Stamp.TheVariants.{End}
+use Rattle.certificate_finder.specs.Offering.{AreByStamps}
+use Rattle.certificate_finder.specs.Owning.{AreKnownOwners}
+use Rattle.certificate_finder.specs.Putting.{ArePuts}
 
--- with which write each call goes, or a hit that can have read no put
-abbrev pub IsReadResult : List NumberedCall → ReadResult → Type 0
-IsReadResult steps (Each owners) = AreSureOwners steps (length steps) owners.owners.items owners.unsure.items
-IsReadResult steps (Refused refusal) = AreExcludedAt steps refusal.hit refusal.puts.items
+-- the puts, with which write each call goes, and the hits that can have read no put, by their ends
+pub record AreHitReads (steps : List NumberedCall) (reads : HitReads) : Type 0 where
+  pub puts : ArePuts steps reads.puts.items
+  pub owners : AreKnownOwners steps (length steps) reads.owners
+  pub wrong : AreByStamps End steps reads.owners.wrong.items reads.wrong.items

@@ -1,8 +1,9 @@
 -- Where puts stand by when they can last be read.
-use Rattle.std.specs.Prelude.{◌≡◌, ℕ, ◌<◌, ◌≤◌, List, Contains, length, slice_get, Some}
+use Rattle.std.specs.Prelude.{◌≡◌, ℕ, List, Contains, length, slice_get, Some}
 use Rattle.std.specs.List.Sorted.{IsNonDecreasingBy}
 use Rattle.certificate_finder.specs.declared.put.Put.{Put}
 use Rattle.certificate_finder.specs.Putting.{last_rank}
+use Rattle.certificate_finder.specs.Writing.{IsSplitBelow}
 
 -- the rank of a rank
 abbrev pub itself : ℕ → ℕ
@@ -15,10 +16,8 @@ pub record AreEnds (puts : List Put) (ends : List ℕ) : Type 0 where
   pub all : (index : ℕ) (put : Put) → slice_get puts index ≡ Some put → Contains ends (last_rank put)
 
 -- this many of the ranks are below one
-pub record IsBelow (ends : List ℕ) (rank index : ℕ) : Type 0 where
-  pub bound : index ≤ length ends
-  pub low : (k end : ℕ) → k < index → slice_get ends k ≡ Some end → end < rank
-  pub high : (k end : ℕ) → index ≤ k → slice_get ends k ≡ Some end → rank ≤ end
+abbrev pub IsBelow : List ℕ → ℕ → ℕ → Type 0
+IsBelow ends rank index = IsSplitBelow itself ends rank index
 
 -- for each put below an index its leaf: how many of the ranks are below its own
 pub record AreLeavesOf (puts : List Put) (ends : List ℕ) (upto : ℕ) (leaves : List ℕ) : Type 0 where

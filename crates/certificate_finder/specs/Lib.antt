@@ -3,6 +3,7 @@ pub mod Bests
 pub mod Choosing
 pub mod Deciding
 pub mod Excluding
+pub mod Faults
 pub mod Finding
 pub mod Hits
 pub mod Laws

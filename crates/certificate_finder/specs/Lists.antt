@@ -1,5 +1,5 @@
 -- Lists of what calls of some kind are.
-use Rattle.std.specs.Prelude.{◌≡◌, ◌≢◌, ℕ, ◌<◌, ◌≤◌, ◌⊎◌, List, [], ◌∷◌, ◌++◌, length, All, AllPairs, Contains, slice_get, Some}
+use Rattle.std.specs.Prelude.{◌≡◌, ◌≢◌, ℕ, ◌<◌, ◌≤◌, ◌⊎◌, List, [], ◌∷◌, ◌++◌, length, All, AllPairs, Bool, Contains, IsTrue, slice_get, Some}
 use Rattle.certificate_finder.specs.declared.numbered_call.NumberedCall.{NumberedCall}
 
 -- an item tells of a call that is wanted
@@ -36,3 +36,14 @@ pub record IsToldAt {X : Type 0} (steps : List NumberedCall) (position : ℕ) (t
 -- a list has an item more that tells of a call, if the call is wanted, and otherwise is as it was
 abbrev pub GrowsBy : {X : Type 0} → (NumberedCall → Type 0) → (ℕ → NumberedCall → X → Type 0) → ℕ → NumberedCall → List X → List X → Type 0
 GrowsBy {X} wanted tells position step old new = (wanted step × ((item : X) × tells position step item × (new ≡ old ++ item ∷ []))) ⊎ ((¬ wanted step) × (new ≡ old))
+
+-- all positions below a limit of which a fact holds, in order
+pub record AreAllBelow (P : ℕ → Type 0) (upto : ℕ) (positions : List ℕ) : Type 0 where
+  pub each : All P positions
+  pub all : (position : ℕ) → position < upto → P position → Contains positions position
+  pub rise : AllPairs (λ earlier later. earlier < later) positions
+  pub below : All (λ position. position < upto) positions
+
+-- a list has a position more if a test holds, and otherwise is as it was
+abbrev pub GrowsIf : Bool → ℕ → List ℕ → List ℕ → Type 0
+GrowsIf test position old new = (IsTrue test × (new ≡ old ++ position ∷ [])) ⊎ ((¬ IsTrue test) × (new ≡ old))

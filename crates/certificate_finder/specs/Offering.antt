@@ -10,7 +10,9 @@ use Rattle.certificate_finder.specs.declared.put.Put.{Put}
 use Rattle.certificate_finder.specs.declared.ranked.Ranked.{Ranked}
 use Rattle.certificate_finder.specs.declared.rule.Rule.{Rule}
 use Rattle.certificate_finder.specs.declared.call_span.CallSpan.{CallSpan}
-use Rattle.certificate_finder.specs.Choosing.{ComesBefore, IsOffer, Wins, WinsOver}
+use Rattle.certificate_finder.specs.declared.stamp.Stamp.{Stamp}
+use Rattle.certificate_finder.specs.declared.stamp.Stamp.TheVariants.{Start, End}
+use Rattle.certificate_finder.specs.Choosing.{IsEarlierBy, IsOffer, Wins, WinsOver}
 use Rattle.certificate_finder.specs.Lining.{positions_in}
 use Rattle.certificate_finder.specs.Owning.{ReadsLive}
 use Rattle.certificate_finder.specs.Putting.{last_rank}
@@ -93,18 +95,32 @@ IsWithPut steps owners rule hit put best new =
     × (((¬ IsTrue (is_live put.expires asked.time)) × (new ≡ best))
     ⊎ (IsTrue (is_live put.expires asked.time) × ((offer : Offer) × (winner : Offer) × (offer.put ≡ put.position) × IsOffer rule (times_in steps) owners hit offer × IsWinner best offer winner × (new ≡ Some winner))))
 
--- ---- the hits in turn
+-- ---- hits by their stamps
 
--- the rank of a hit: by start, then by position
-abbrev pub rank_of_hit : List NumberedCall → ℕ → ℕ
-rank_of_hit steps position = (times_in steps position).start * 2 ^ 32 + position
+-- one of a call's stamps
+abbrev pub stamp_of : Stamp → NumberedCall → ℕ
+stamp_of Start step = step.start
+stamp_of End step = step.end
+
+-- that stamp of the call at a position
+abbrev pub stamp_at : Stamp → List NumberedCall → ℕ → ℕ
+stamp_at Start steps position = (times_in steps position).start
+stamp_at End steps position = (times_in steps position).end
+
+-- the rank of a hit: by a stamp, then by position
+abbrev pub rank_of_hit : Stamp → List NumberedCall → ℕ → ℕ
+rank_of_hit stamp steps position = stamp_at stamp steps position * 2 ^ 32 + position
 
 -- the first of some hits, with their ranks
-pub record AreListed (steps : List NumberedCall) (unsure : List ℕ) (upto : ℕ) (hits : List Ranked) : Type 0 where
-  pub same : positions_in hits ≡ take upto unsure
-  pub ranks : All (λ (hit : Ranked). (hit.rank ≡ rank_of_hit steps hit.position) × (hit.position < 2 ^ 32)) hits
+pub record AreListed (stamp : Stamp) (steps : List NumberedCall) (positions : List ℕ) (upto : ℕ) (hits : List Ranked) : Type 0 where
+  pub same : positions_in hits ≡ take upto positions
+  pub ranks : All (λ (hit : Ranked). (hit.rank ≡ rank_of_hit stamp steps hit.position) × (hit.position < 2 ^ 32)) hits
 
--- the same hits, in turn
-pub record HitsInTurn (steps : List NumberedCall) (unsure : List ℕ) (hits : List Ranked) : Type 0 where
-  pub same : (hit : ℕ) → Contains unsure hit ↔ Contains (positions_in hits) hit
-  pub order : AllPairs (ComesBefore (times_in steps)) (positions_in hits)
+-- the same hits by a stamp, those of one stamp by their positions
+pub record AreByStamps (stamp : Stamp) (steps : List NumberedCall) (positions : List ℕ) (hits : List Ranked) : Type 0 where
+  pub same : (hit : ℕ) → Contains positions hit ↔ Contains (positions_in hits) hit
+  pub order : AllPairs (IsEarlierBy (stamp_at stamp steps)) (positions_in hits)
+
+-- the same hits, in the order in which they get a put
+abbrev pub HitsInTurn : List NumberedCall → List ℕ → List Ranked → Type 0
+HitsInTurn steps unsure hits = AreByStamps Start steps unsure hits

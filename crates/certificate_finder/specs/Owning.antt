@@ -1,12 +1,12 @@
 -- With which write each call goes.
-use Rattle.std.specs.Prelude.{◌≡◌, ◌≢◌, ℕ, ◌<◌, ◌≤◌, ◌⊎◌, Bool, true, false, List, [], ◌∷◌, ◌++◌, All, AllPairs, Contains, length, slice_get, Some, IsTrue}
+use Rattle.std.specs.Prelude.{◌≡◌, ◌≢◌, ℕ, ◌<◌, ◌≤◌, ◌⊎◌, List, [], ◌∷◌, ◌++◌, All, AllPairs, Contains, length, slice_get, Some, IsTrue}
 use Rattle.record_pages.specs.Expiry.{is_live}
 use Rattle.certificate_finder.specs.declared.call_kind.CallKind.TheVariants as kinds
 use Rattle.certificate_finder.specs.declared.owner.Owner.{Owner}
 use Rattle.certificate_finder.specs.declared.owner.Owner.TheVariants as owner
-use Rattle.certificate_finder.specs.declared.owning.Owning.{Owning}
-use Rattle.certificate_finder.specs.declared.owning.Owning.TheVariants.{Each, Refused}
+use Rattle.certificate_finder.specs.declared.owning.Owners.{Owners}
 use Rattle.certificate_finder.specs.declared.numbered_call.NumberedCall.{NumberedCall}
+use Rattle.certificate_finder.specs.Lists.{AreAllBelow}
 use Rattle.certificate_finder.specs.Putting.{IsOver}
 
 -- a hit may have read a put, expiry aside
@@ -70,6 +70,11 @@ GoesAlone steps step = (step.kind ≡ kinds.Hit) → ReadsSeveral steps step
 abbrev pub IsSurelyOwned : List NumberedCall → ℕ → NumberedCall → ℕ → Type 0
 IsSurelyOwned steps position step owner = ((owner ≡ position) × GoesAlone steps step) ⊎ ((step.kind ≡ kinds.Hit) × ReadsOnly steps step owner)
 
+-- each call goes by itself, or is a hit that may have read its owner alone
+pub record AreSingle (steps : List NumberedCall) (owners : List ℕ) : Type 0 where
+  pub count : length owners ≡ length steps
+  pub owned : (position : ℕ) (step : NumberedCall) (owner : ℕ) → slice_get steps position ≡ Some step → slice_get owners position ≡ Some owner → (owner ≡ position) ⊎ ((step.kind ≡ kinds.Hit) × ReadsOnly steps step owner)
+
 -- a call at a position has this owner: a put that it may have read, if it is a hit, and otherwise itself
 abbrev pub IsOwned : List NumberedCall → ℕ → NumberedCall → ℕ → Type 0
 IsOwned steps position step owner = ((owner ≡ position) × (¬ (step.kind ≡ kinds.Hit))) ⊎ ((step.kind ≡ kinds.Hit) × ReadsAt steps step owner)
@@ -108,14 +113,26 @@ pub record IsRefused (steps : List NumberedCall) (position : ℕ) : Type 0 where
   pub kind : step.kind ≡ kinds.Hit
   pub none : ReadsNoLive steps step
 
--- with which write each call goes, or a hit that can have read no put
-abbrev pub IsOwning : List NumberedCall → Owning → Type 0
-IsOwning steps (Each owners) = AreSureOwners steps (length steps) owners.owners.items owners.unsure.items
-IsOwning steps (Refused position) = IsRefused steps position
+-- a call at a position is sure of its owner, or is a hit that may have read no put, and goes by itself
+abbrev pub IsKnownOwner : List NumberedCall → ℕ → NumberedCall → ℕ → Type 0
+IsKnownOwner steps position step owner = IsSurelyOwned steps position step owner ⊎ ((owner ≡ position) × (step.kind ≡ kinds.Hit) × ReadsNoLive steps step)
 
--- an owner is noted: the call's owner, and the call itself if it is unsure; if it can have read no put, it is not
-abbrev pub IsNoted : ℕ → Owner → List ℕ → List ℕ → List ℕ → List ℕ → Bool → Type 0
-IsNoted position owner.Itself old new old_unsure new_unsure noted = (noted ≡ true) × (new ≡ old ++ position ∷ []) × (new_unsure ≡ old_unsure)
-IsNoted position (owner.Put put) old new old_unsure new_unsure noted = (noted ≡ true) × (new ≡ old ++ put ∷ []) × (new_unsure ≡ old_unsure)
-IsNoted position owner.Unsure old new old_unsure new_unsure noted = (noted ≡ true) × (new ≡ old ++ position ∷ []) × (new_unsure ≡ old_unsure ++ position ∷ [])
-IsNoted position owner.Nothing old new old_unsure new_unsure noted = noted ≡ false
+-- the owners of the calls below a position, the hits that may have read several puts, and those that may have read none
+pub record AreKnownOwners (steps : List NumberedCall) (upto : ℕ) (owners : Owners) : Type 0 where
+  pub count : length owners.owners.items ≡ upto
+  pub owned : (position : ℕ) (step : NumberedCall) (one : ℕ) → slice_get steps position ≡ Some step → slice_get owners.owners.items position ≡ Some one → IsKnownOwner steps position step one
+  pub unsure : AreAllBelow (IsUnsure steps) upto owners.unsure.items
+  pub wrong : AreAllBelow (IsRefused steps) upto owners.wrong.items
+
+-- there is one owner more, and these hits are unsure and these wrong
+pub record HasOneMore (old new : Owners) (one : ℕ) (unsure wrong : List ℕ) : Type 0 where
+  pub owners : new.owners.items ≡ old.owners.items ++ one ∷ []
+  pub unsure_are : new.unsure.items ≡ unsure
+  pub wrong_are : new.wrong.items ≡ wrong
+
+-- the owner of the call at a position is noted
+abbrev pub IsNoted : ℕ → Owner → Owners → Owners → Type 0
+IsNoted position owner.Itself old new = HasOneMore old new position old.unsure.items old.wrong.items
+IsNoted position (owner.Put put) old new = HasOneMore old new put old.unsure.items old.wrong.items
+IsNoted position owner.Unsure old new = HasOneMore old new position (old.unsure.items ++ position ∷ []) old.wrong.items
+IsNoted position owner.Nothing old new = HasOneMore old new position old.unsure.items (old.wrong.items ++ position ∷ [])

@@ -53,3 +53,12 @@ pub record HoldsTwice (P : ℕ → Type 0) : Type 0 where
 -- the hit at a position may have read several puts
 abbrev pub HasSeveral : List Call → ℕ → Type 0
 HasSeveral history hit = HoldsTwice (CouldRead history hit)
+
+-- the call at a position is a hit that can have read no put
+pub record HasNone (history : List Call) (hit : ℕ) : Type 0 where
+  pub call : Call
+  pub value : List ℕ
+  pub moment : ℕ
+  pub at : slice_get history hit ≡ Some call
+  pub is : call.act ≡ Hit value moment
+  pub none : (put : ℕ) → ¬ CouldRead history hit put

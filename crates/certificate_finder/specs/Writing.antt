@@ -61,3 +61,9 @@ pub record IsSplit {X : Type 0} (rank : X → ℕ) (items : List X) (limit index
   pub bound : index ≤ length items
   pub low : (k : ℕ) (item : X) → k < index → slice_get items k ≡ Some item → rank item ≤ limit
   pub high : (k : ℕ) (item : X) → index ≤ k → slice_get items k ≡ Some item → limit < rank item
+
+-- an index parts items by a rank: those before it are below the limit, the others are not
+pub record IsSplitBelow {X : Type 0} (rank : X → ℕ) (items : List X) (limit index : ℕ) : Type 0 where
+  pub bound : index ≤ length items
+  pub low : (k : ℕ) (item : X) → k < index → slice_get items k ≡ Some item → rank item < limit
+  pub high : (k : ℕ) (item : X) → index ≤ k → slice_get items k ≡ Some item → limit ≤ rank item

@@ -1,7 +1,8 @@
 -- The time in which a write and its hits have to stand.
-use Rattle.std.specs.Prelude.{◌≡◌, ◌≢◌, ℕ, ◌+◌, ◌*◌, ◌^◌, ◌<◌, ◌≤◌, ◌⊎◌, List, All, AllPairs, Contains, length, slice_get, Some, Option, MatchOption}
+use Rattle.std.specs.Prelude.{◌≡◌, ◌≢◌, ℕ, ◌+◌, ◌*◌, ◌^◌, ◌<◌, ◌≤◌, ◌⊎◌, List, [], ◌∷◌, ◌++◌, All, AllPairs, Contains, length, map, slice_get, Some}
 use Rattle.std.specs.List.Sorted.{IsNonDecreasingBy}
 use Rattle.certificate_finder.specs.declared.crossing.Crossing.{Crossing}
+use Rattle.certificate_finder.specs.declared.faults.CrossedWrites.{CrossedWrites}
 use Rattle.certificate_finder.specs.declared.numbered_call.NumberedCall.{NumberedCall}
 use Rattle.certificate_finder.specs.declared.witness.Side.{Side}
 use Rattle.certificate_finder.specs.declared.witness.Witness.{Witness}
@@ -86,9 +87,29 @@ pub record AreCrossedAt (zones : List Zone) (key : ℕ) : Type 0 where
 abbrev pub FollowOn : Zone → Zone → Type 0
 FollowOn earlier later = earlier.key ≡ later.key → earlier.start ≤ later.end
 
--- two zones that are crossed, or each follows on the earlier ones of its key
-abbrev pub IsCrossingOrNone : List Zone → Option Crossing → Type 0
-IsCrossingOrNone zones crossing = MatchOption crossing (AllPairs FollowOn zones) (AreCrossing zones)
+-- of each key that has crossed zones two of them, by keys
+pub record AreCrossings (zones : List Zone) (crossings : List Crossing) : Type 0 where
+  pub each : All (AreCrossing zones) crossings
+  pub rise : AllPairs (λ one other. one.one.key < other.one.key) crossings
+  pub all : (key : ℕ) → AreCrossedAt zones key → Contains (map (λ crossing. crossing.one.key) crossings) key
+
+-- the last of some crossings is of a key
+pub record IsLastKey (crossings : List Crossing) (key : ℕ) : Type 0 where
+  pub index : ℕ
+  pub last : Crossing
+  pub at : slice_get crossings index ≡ Some last
+  pub ends : index + 1 ≡ length crossings
+  pub of_key : last.one.key ≡ key
+
+-- two zones that come one after the other are crossed
+abbrev pub AreCrossedNext : Zone → Zone → Type 0
+AreCrossedNext high zone = (zone.key ≡ high.key) × (zone.end < high.start)
+
+-- two zones are listed, if they are crossed and the last listed ones are of another key
+abbrev pub GrowsByCrossing : Zone → Zone → List Crossing → List Crossing → Type 0
+GrowsByCrossing high zone old new =
+    (AreCrossedNext high zone × (¬ IsLastKey old zone.key) × (new ≡ old ++ record { one = high; other = zone } ∷ []))
+    ⊎ (((¬ AreCrossedNext high zone) ⊎ IsLastKey old zone.key) × (new ≡ old))
 
 -- the positions up to a count, in order
 pub record ArePositions (count : ℕ) (positions : List ℕ) : Type 0 where
@@ -98,6 +119,18 @@ pub record ArePositions (count : ℕ) (positions : List ℕ) : Type 0 where
 -- a zone's write with its two calls
 abbrev pub side_of : Zone → Side
 side_of zone = record { write = zone.write; early = zone.early; late = zone.late }
+
+-- the writes of two zones
+abbrev pub writes_of : Crossing → CrossedWrites
+writes_of crossing = record { one = side_of crossing.one; other = side_of crossing.other }
+
+-- the writes of the crossed zones of each key, if calls have these owners
+pub record AreCrossedIn (steps : List NumberedCall) (owners : List ℕ) (crossed : List CrossedWrites) : Type 0 where
+  pub zones : List Zone
+  pub are_zones : AreZones steps owners zones
+  pub crossings : List Crossing
+  pub are : AreCrossings zones crossings
+  pub told : crossed ≡ map writes_of crossings
 
 -- the reason that two crossed zones are
 abbrev pub crossed_by : Crossing → Witness

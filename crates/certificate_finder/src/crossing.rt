@@ -1,4 +1,7 @@
 // Writes each of which has to stand before the other.
+ghost use Rattle.std.specs.Prelude.{◌≡◌, ◌<◌, Some, length, slice_get};
+
+use crate::faults::CrossedWrites;
 use crate::witness::Witness;
 use crate::zone::Zone;
 
@@ -12,8 +15,7 @@ pub(crate) struct Crossing {
 }
 
 impl Crossing {
-    ghost use Rattle.std.specs.Prelude.{◌≡◌};
-    ghost use Rattle.certificate_finder.specs.Zones.{crossed_by};
+    ghost use Rattle.certificate_finder.specs.Zones.{crossed_by, writes_of};
 
     /// The reason that it is.
     pub(crate) fn witness(&self) -> Witness
@@ -21,4 +23,22 @@ impl Crossing {
     {
         Witness::Crossed(self.one.side(), self.other.side())
     }
+
+    /// The writes of the two zones.
+    pub(crate) fn writes(&self) -> CrossedWrites
+        ensures { result ≡ writes_of self.now }
+    {
+        CrossedWrites {
+            one: self.one.side(),
+            other: self.other.side(),
+        }
+    }
+}
+
+/// The crossing at an index.
+pub(crate) fn crossing_at(crossings: &[Crossing], index: usize) -> Crossing
+    requires { index < length crossings.now }
+    ensures { slice_get crossings.now index ≡ Some result }
+{
+    crossings[index]
 }

@@ -1,36 +1,61 @@
 // Looking for zones that are crossed.
-ghost use Rattle.std.specs.Prelude.{◌≡◌, ◌<◌, ◌≤◌, ◌⊎◌, ◌↔◌, All, IfOk, IsTrue, length};
+ghost use Rattle.std.specs.Prelude.{◌≡◌, ◌<◌, ◌≤◌, ◌⊎◌, ◌↔◌, All, IfOk, IsTrue, OnOk, length};
 ghost use Rattle.std.specs.List.Sorted.{IsNonDecreasingBy};
 ghost use Rattle.certificate_finder.specs.Deciding.{AreStill, IsMarked};
-ghost use Rattle.certificate_finder.specs.Zones.{zone_rank, AreDistinct, IsFitZone, IsCrossingOrNone};
+ghost use Rattle.certificate_finder.specs.Zones.{AreCrossings, AreDistinct, GrowsByCrossing, IsFitZone, IsLastKey, zone_rank};
 
-use crate::crossing::Crossing;
+use crate::crossing::{Crossing, crossing_at};
 use crate::flags::flag_at;
 use crate::zone::{Zone, zone_at};
 use std::alloc::{AllocError, Global};
 
-/// Two zones of one key that are crossed, if there are such.
-pub(crate) fn crossing_of(zones: &[Zone]) -> Option<Crossing>
+/// Of each key that has zones that are crossed two such zones, by the numbers of the keys.
+pub(crate) fn crossings_of(alloc: Global, zones: &[Zone]) -> Result<Vec<Crossing>, AllocError>
     requires sorted { IsNonDecreasingBy zone_rank zones.now }
     requires distinct { AreDistinct zones.now }
     requires fit { All IsFitZone zones.now }
-    ensures { IsCrossingOrNone zones.now result }
+    ensures { IfOk result (λ crossings. AreCrossings zones.now crossings.items) }
 {
+    let mut crossings = Vec::new(alloc);
     if zones.is_empty() {
-        return None;
+        return Ok(crossings);
     }
     let mut high = zone_at(zones, 0);
     for index in 1..zones.len() {
         let zone = zone_at(zones, index);
-        if are_crossed(high, zone) {
-            return Some(Crossing {
-                one: high,
-                other: zone,
-            });
-        }
+        list_crossing(&mut crossings, high, zone)?;
         high = higher(high, zone);
     }
-    None
+    Ok(crossings)
+}
+
+/// Lists two zones, one after the other, if they are crossed and the last ones listed are of another key.
+fn list_crossing(crossings: &mut Vec<Crossing>, high: Zone, zone: Zone) -> Result<(), AllocError>
+    ensures { OnOk result (GrowsByCrossing high zone crossings.old.items crossings.new.items) }
+{
+    if !are_crossed(high, zone) {
+        return Ok(());
+    }
+    if is_last_key(crossings.as_slice(), zone.key) {
+        return Ok(());
+    }
+    crossings.push(Crossing {
+        one: high,
+        other: zone,
+    })?;
+    Ok(())
+}
+
+/// Whether the last zones listed are of a key.
+fn is_last_key(crossings: &[Crossing], key: u32) -> bool
+    ensures { IsTrue result ↔ IsLastKey crossings.now key }
+{
+    let count = crossings.len();
+    if count == 0 {
+        return false;
+    }
+    let last = crossing_at(crossings, count - 1);
+    last.one.key == key
 }
 
 /// Which of the stuck keys are still stuck: those with two zones that are crossed.

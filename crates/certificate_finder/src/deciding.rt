@@ -20,6 +20,7 @@ use crate::numbered_call::NumberedCall;
 use crate::put::Put;
 use crate::ranked::Ranked;
 use crate::rule::{RULES, Rule, rule_at};
+use crate::stamp::Stamp;
 use crate::zoning::{sorted_zones, zones_of};
 use std::alloc::{AllocError, Global};
 use trace_file::Certificate;
@@ -41,7 +42,7 @@ pub(crate) fn certificate_by_rules(
 {
     let puts = all_puts_of(alloc, steps)?;
     let links = links_of(alloc, puts.as_slice())?;
-    let hits = hits_in_turn(alloc, steps, unsure)?;
+    let hits = hits_in_turn(alloc, steps, unsure, Stamp::Start)?;
     match tried(
         alloc,
         steps,

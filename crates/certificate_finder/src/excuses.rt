@@ -1,13 +1,14 @@
 // Why a hit can have read no put.
-ghost use Rattle.std.specs.Prelude.{◌≡◌, ◌<◌, ◌^◌, All, IfOk, OnOk};
-ghost use Rattle.certificate_finder.specs.Excluding.{AreExcludedAt, GrowsByExcluded, IsExcuse};
+ghost use Rattle.std.specs.Prelude.{◌≡◌, ◌<◌, ◌^◌, All, IfOk};
+ghost use Rattle.certificate_finder.specs.Excluding.{AreExcludedAt, IsExcuse};
 ghost use Rattle.certificate_finder.specs.Owning.{IsRefused};
 ghost use Rattle.certificate_finder.specs.Putting.{ArePuts};
 ghost use Rattle.certificate_finder.specs.Steps.{IsFit};
 
 use crate::excluded::{Excluded, Excuse};
 use crate::numbered_call::{NumberedCall, step_at};
-use crate::put::{Put, put_at};
+use crate::put::{Put, put_at, value_rank};
+use crate::puts::{puts_below, puts_upto};
 use std::alloc::{AllocError, Global};
 
 /// All puts of a hit's key and value, each with what excludes it.
@@ -23,31 +24,18 @@ pub(crate) fn excluded_of(
     ensures { IfOk result (λ excluded. AreExcludedAt steps.now position excluded.items) }
 {
     let hit = step_at(steps, position as usize);
+    let from = puts_below(puts, value_rank(hit.key, hit.value, 0));
+    let upto = puts_upto(puts, value_rank(hit.key, hit.value, u64::MAX));
     let mut excluded = Vec::new(alloc);
-    for index in 0..puts.len() {
+    for index in from..upto {
         let put = put_at(puts, index);
-        list_excluded(&mut excluded, &put, &hit)?;
+        let why = excuse_of(&put, &hit);
+        excluded.push(Excluded {
+            put: put.position,
+            why,
+        })?;
     }
     Ok(excluded)
-}
-
-/// Lists a put with what excludes it, if it is of a hit's key and value.
-fn list_excluded(
-    excluded: &mut Vec<Excluded>,
-    put: &Put,
-    hit: &NumberedCall,
-) -> Result<(), AllocError>
-    ensures { OnOk result (GrowsByExcluded put.now hit.now excluded.old.items excluded.new.items) }
-{
-    if !put.is_like(hit.key, hit.value) {
-        return Ok(());
-    }
-    let why = excuse_of(put, hit);
-    excluded.push(Excluded {
-        put: put.position,
-        why,
-    })?;
-    Ok(())
 }
 
 /// What excludes a put of a hit's key and value.

@@ -1,21 +1,26 @@
 // Finding a certificate for a history that brings none.
-ghost use Rattle.std.specs.Prelude.{◌≡◌, ◌<◌, ◌≤◌, ◌^◌, List, All, IfOk, IsSomeAnd, MatchOption, length, slice_get};
+ghost use Rattle.std.specs.Prelude.{◌<◌, ◌^◌, List, All, IfOk, length};
 ghost use Rattle.trace_file.specs.declared.call.Call.{Call};
 ghost use Rattle.certificate_checker.specs.Acceptance.{IsAccepted};
-ghost use Rattle.certificate_finder.specs.Finding.{AreUndecided, IfAccepted, IfRejected, IfUndecided, IsFound, IsIntervalOrNone};
+ghost use Rattle.certificate_finder.specs.Finding.{AreForward, AreUndecided, IfAccepted, IfRejected, IfUndecided, IsFound, IsToldFirst};
 ghost use Rattle.certificate_finder.specs.Owning.{AreSureOwners};
 ghost use Rattle.certificate_finder.specs.Steps.{AreSteps, IsFit};
 ghost use Rattle.certificate_finder.specs.Witnesses.{IsWitness};
 
-use crate::crossings::crossing_of;
+use crate::crossing::crossing_at;
+use crate::crossings::crossings_of;
 use crate::deciding::certificate_by_rules;
+use crate::excuses::excluded_of;
 use crate::found::Found;
-use crate::hits::read_result_of;
+use crate::hit_reads::HitReads;
+use crate::hits::hit_reads_of;
 use crate::line::certificate_by_zones;
 use crate::numbered_call::NumberedCall;
 use crate::numbering::steps_of;
+use crate::numbers::number_at;
 use crate::owning::Owners;
-use crate::read_result::ReadResult;
+use crate::ranked::ranked_at;
+use crate::reversed::reversed_of;
 use crate::witness::Witness;
 use crate::zoning::zones_of;
 use std::alloc::{AllocError, Global};
@@ -26,6 +31,10 @@ use trace_file::History;
 pub const MAX_CALLS: usize = 2147483647;
 
 /// Finds a certificate for a history, or a reason why there can be none, or the hits for which nothing was decided.
+///
+/// A history that has several reasons is told of the first call that ends before it starts. If there is none, it is told of
+/// the hit that can have read no put and ends first, or of those that end at one stamp the first one in the history. It is told
+/// of crossed writes only if it has neither. `find_faults` lists all.
 ///
 /// A hit can have read a put of its key and value that began before the hit ended and had not expired at its moment,
 /// and after which no write of the key lies that ended before the hit began. If each hit can have read at most one, it
@@ -40,6 +49,7 @@ pub const MAX_CALLS: usize = 2147483647;
 pub fn find(alloc: Global, history: &History) -> Result<Found, AllocError>
     ensures accepted { IfOk result (λ found. IfAccepted found (IsAccepted history.now)) }
     ensures rejected { IfOk result (λ found. IfRejected found (IsWitness history.now)) }
+    ensures first { IfOk result (λ found. IfRejected found (IsToldFirst history.now)) }
     ensures undecided { IfOk result (λ found. IfUndecided found (AreUndecided history.now)) }
 {
     let known: BuildHasherDefault<FoldHasher> = BuildHasherDefault::new();
@@ -58,13 +68,17 @@ pub fn find_with_hasher<S: BuildHasher + Drop>(
 ) -> Result<Found, AllocError>
     ensures accepted { IfOk result (λ found. IfAccepted found (IsAccepted history.now)) }
     ensures rejected { IfOk result (λ found. IfRejected found (IsWitness history.now)) }
+    ensures first { IfOk result (λ found. IfRejected found (IsToldFirst history.now)) }
     ensures undecided { IfOk result (λ found. IfUndecided found (AreUndecided history.now)) }
 {
     if history.len() > MAX_CALLS {
         return Err(AllocError);
     }
-    if let Some(position) = bad_interval(history) {
-        return Ok(Found::Rejected(Witness::Interval(position)));
+    let reversed = reversed_of(alloc, history)?;
+    let bad = reversed.as_slice();
+    if !bad.is_empty() {
+        let first = number_at(bad, 0);
+        return Ok(Found::Rejected(Witness::Interval(first)));
     }
     let steps = steps_of(alloc, hash_builder, history)?;
     match found_of(alloc, steps.as_slice()) {
@@ -73,36 +87,28 @@ pub fn find_with_hasher<S: BuildHasher + Drop>(
     }
 }
 
-/// The position of the first call that ends before it starts.
-fn bad_interval(history: &History) -> Option<u32>
-    requires { length history.now < 2 ^ 31 }
-    ensures { IsIntervalOrNone history.now result }
-{
-    for position in 0..history.len() {
-        let call = history.at(position);
-        if call.end < call.start {
-            return Some(position as u32);
-        }
-    }
-    None
-}
-
 /// What is found for a history whose calls are in numbers.
 fn found_of(alloc: Global, steps: &[NumberedCall]) -> Result<Found, AllocError>
     requires few { length steps.now < 2 ^ 31 }
     requires fit { All IsFit steps.now }
     ensures { IfOk result (λ found. (history : List Call) → AreSteps history steps.now
-        → All (λ call. call.start ≤ call.end) history → IsFound history found) }
+        → AreForward history → IsFound history found) }
 {
-    let read = read_result_of(alloc, steps)?;
-    match read {
-        ReadResult::Refused(refusal) => {
-            Ok(Found::Rejected(Witness::Hit(refusal.hit, refusal.puts)))
-        }
-        ReadResult::Each(owners) => match arranged(alloc, steps, owners) {
-            Ok(found) => Ok(found),
-            Err(refused) => Err(refused),
-        },
+    let reads = hit_reads_of(alloc, steps)?;
+    let HitReads {
+        puts,
+        owners,
+        wrong,
+    } = reads;
+    let listed = wrong.as_slice();
+    if !listed.is_empty() {
+        let first = ranked_at(listed, 0);
+        let excluded = excluded_of(alloc, steps, puts.as_slice(), first.position)?;
+        return Ok(Found::Rejected(Witness::Hit(first.position, excluded)));
+    }
+    match arranged(alloc, steps, owners) {
+        Ok(found) => Ok(found),
+        Err(refused) => Err(refused),
     }
 }
 
@@ -112,14 +118,17 @@ fn arranged(alloc: Global, steps: &[NumberedCall], owners: Owners) -> Result<Fou
     requires fit { All IsFit steps.now }
     requires owners { AreSureOwners steps.now (length steps.now) owners.owners.items owners.unsure.items }
     ensures { IfOk result (λ found. (history : List Call) → AreSteps history steps.now
-        → All (λ call. call.start ≤ call.end) history → IsFound history found) }
+        → AreForward history → IsFound history found) }
 {
-    let Owners { owners, unsure } = owners;
+    let Owners { owners, unsure, .. } = owners;
     let owned = owners.as_slice();
     let zones = zones_of(alloc, steps, owned)?;
     let listed = zones.as_slice();
-    if let Some(crossing) = crossing_of(listed) {
-        return Ok(Found::Rejected(crossing.witness()));
+    let crossings = crossings_of(alloc, listed)?;
+    let crossed = crossings.as_slice();
+    if !crossed.is_empty() {
+        let first = crossing_at(crossed, 0);
+        return Ok(Found::Rejected(first.witness()));
     }
     let doubtful = unsure.as_slice();
     if !doubtful.is_empty() {

@@ -1,23 +1,25 @@
-// The hits that can have read several puts, in the order in which they get one.
+// Hits in the order of their stamps.
 ghost use Rattle.std.specs.Prelude.{◌<◌, All, AllPairs, IfOk, length};
-ghost use Rattle.certificate_finder.specs.Offering.{AreListed, HitsInTurn};
+ghost use Rattle.certificate_finder.specs.Offering.{AreByStamps, AreListed};
 
 use crate::numbered_call::{NumberedCall, step_at};
 use crate::numbers::number_at;
 use crate::ranked::Ranked;
+use crate::stamp::Stamp;
 use std::alloc::{AllocError, Global};
 
-/// These hits by their starts, those of one start by their positions.
+/// The hits at these positions by one of their stamps, those of one stamp by their positions.
 pub(crate) fn hits_in_turn(
     alloc: Global,
     steps: &[NumberedCall],
-    unsure: &[u32],
+    positions: &[u32],
+    stamp: Stamp,
 ) -> Result<Vec<Ranked>, AllocError>
-    requires within { All (λ hit. hit < length steps.now) unsure.now }
-    requires rise { AllPairs (λ earlier later. earlier < later) unsure.now }
-    ensures { IfOk result (λ hits. HitsInTurn steps.now unsure.now hits.items) }
+    requires within { All (λ hit. hit < length steps.now) positions.now }
+    requires rise { AllPairs (λ earlier later. earlier < later) positions.now }
+    ensures { IfOk result (λ hits. AreByStamps stamp steps.now positions.now hits.items) }
 {
-    let mut hits = listed_hits(alloc, steps, unsure)?;
+    let mut hits = listed_hits(alloc, steps, positions, stamp)?;
     hits.sort_unstable_by_key(|hit| hit.rank);
     Ok(hits)
 }
@@ -26,16 +28,18 @@ pub(crate) fn hits_in_turn(
 fn listed_hits(
     alloc: Global,
     steps: &[NumberedCall],
-    unsure: &[u32],
+    positions: &[u32],
+    stamp: Stamp,
 ) -> Result<Vec<Ranked>, AllocError>
-    requires within { All (λ hit. hit < length steps.now) unsure.now }
-    ensures { IfOk result (λ hits. AreListed steps.now unsure.now (length unsure.now) hits.items) }
+    requires within { All (λ hit. hit < length steps.now) positions.now }
+    ensures { IfOk result (λ hits.
+        AreListed stamp steps.now positions.now (length positions.now) hits.items) }
 {
     let mut hits = Vec::new(alloc);
-    for index in 0..unsure.len() {
-        let position = number_at(unsure, index);
+    for index in 0..positions.len() {
+        let position = number_at(positions, index);
         let step = step_at(steps, position as usize);
-        let rank = step.start as u128 * 4294967296 + position as u128;
+        let rank = step.stamp(stamp) as u128 * 4294967296 + position as u128;
         hits.push(Ranked { position, rank })?;
     }
     Ok(hits)

@@ -5,6 +5,7 @@ ghost use Rattle.certificate_finder.specs.Steps.{kind_of as kind_of_act};
 
 use crate::call_kind::CallKind;
 use crate::call_span::CallSpan;
+use crate::stamp::Stamp;
 use trace_file::{ActRef, CallRef};
 
 /// A call, with a number in place of its key and one in place of its value.
@@ -26,6 +27,7 @@ pub(crate) struct NumberedCall {
 
 impl NumberedCall {
     ghost use Rattle.trace_file.specs.Lent.{call_shown};
+    ghost use Rattle.certificate_finder.specs.Offering.{stamp_of};
     ghost use Rattle.certificate_finder.specs.Steps.{IsStep};
 
     /// The call with these numbers.
@@ -42,6 +44,16 @@ impl NumberedCall {
             start: call.start,
             end: call.end,
             time: call.act.time(),
+        }
+    }
+
+    /// One of its stamps.
+    pub(crate) fn stamp(&self, stamp: Stamp) -> u64
+        ensures { result ≡ stamp_of stamp self.now }
+    {
+        match stamp {
+            Stamp::Start => self.start,
+            Stamp::End => self.end,
         }
     }
 

@@ -1,69 +1,36 @@
 // Finding the write with which each call goes.
 ghost use Rattle.std.specs.Prelude.{◌≡◌, ◌<◌, ◌^◌, All, IfOk, length, slice_get, Some};
 ghost use Rattle.certificate_finder.specs.Asking.{AreReadings};
-ghost use Rattle.certificate_finder.specs.Owning.{IsNoted, IsOwnerAt, IsOwning};
+ghost use Rattle.certificate_finder.specs.Owning.{AreKnownOwners, IsOwnerAt};
 ghost use Rattle.certificate_finder.specs.Putting.{ArePuts};
 ghost use Rattle.certificate_finder.specs.Steps.{IsFit};
 
 use crate::numbered_call::{NumberedCall, step_at};
 use crate::owner::Owner;
-use crate::owning::{Owners, Owning};
+use crate::owning::Owners;
 use crate::put::{Put, put_at};
 use crate::readable::Readable;
 use std::alloc::{AllocError, Global};
 
-/// The owners of all calls, or the position of a hit that can have read no put.
+/// The owners of all calls.
 pub(crate) fn owners_of(
     alloc: Global,
     steps: &[NumberedCall],
     puts: &[Put],
     readings: &[Readable],
-) -> Result<Owning, AllocError>
+) -> Result<Owners, AllocError>
     requires few { length steps.now < 2 ^ 31 }
     requires fit { All IsFit steps.now }
     requires puts { ArePuts steps.now puts.now }
     requires readings { AreReadings steps.now puts.now readings.now }
-    ensures { IfOk result (IsOwning steps.now) }
+    ensures { IfOk result (AreKnownOwners steps.now (length steps.now)) }
 {
-    let mut owners = Vec::new(alloc);
-    let mut unsure = Vec::new(alloc);
+    let mut owners = Owners::new(alloc);
     for position in 0..steps.len() {
         let owner = owner_at(steps, puts, readings, position);
-        let noted = note(&mut owners, &mut unsure, position as u32, owner)?;
-        if !noted {
-            return Ok(Owning::Refused(position as u32));
-        }
+        owners.note(position as u32, owner)?;
     }
-    Ok(Owning::Each(Owners { owners, unsure }))
-}
-
-/// Notes with which write the call at a position goes, unless it is a hit that can have read no put: then nothing is changed,
-/// and the answer is false.
-fn note(
-    owners: &mut Vec<u32>,
-    unsure: &mut Vec<u32>,
-    position: u32,
-    owner: Owner,
-) -> Result<bool, AllocError>
-    ensures { IfOk result (IsNoted position owner owners.old.items owners.new.items
-        unsure.old.items unsure.new.items) }
-{
-    match owner {
-        Owner::Itself => {
-            owners.push(position)?;
-            Ok(true)
-        }
-        Owner::Put(put) => {
-            owners.push(put)?;
-            Ok(true)
-        }
-        Owner::Unsure => {
-            owners.push(position)?;
-            unsure.push(position)?;
-            Ok(true)
-        }
-        Owner::Nothing => Ok(false),
-    }
+    Ok(owners)
 }
 
 /// With which write the call at a position goes.

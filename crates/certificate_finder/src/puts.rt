@@ -4,7 +4,7 @@ ghost use Rattle.std.specs.List.Sorted.{IsNonDecreasingBy};
 ghost use Rattle.certificate_finder.specs.Lists.{GrowsBy, Lists};
 ghost use Rattle.certificate_finder.specs.Putting.{ArePuts, IsPut, Putting, TellsPut, put_rank};
 ghost use Rattle.certificate_finder.specs.Steps.{IsFit};
-ghost use Rattle.certificate_finder.specs.Writing.{AreSoonest, AreWrites, IsSplit};
+ghost use Rattle.certificate_finder.specs.Writing.{AreSoonest, AreWrites, IsSplit, IsSplitBelow};
 
 use crate::numbered_call::{NumberedCall, step_at};
 use crate::put::Put;
@@ -77,4 +77,12 @@ pub(crate) fn puts_upto(puts: &[Put], limit: u128) -> usize
     ensures { IsSplit put_rank puts.now limit result }
 {
     puts.partition_point(|put| put.rank() <= limit)
+}
+
+/// How many puts have less than this rank.
+pub(crate) fn puts_below(puts: &[Put], limit: u128) -> usize
+    requires { IsNonDecreasingBy put_rank puts.now }
+    ensures { IsSplitBelow put_rank puts.now limit result }
+{
+    puts.partition_point(|put| put.rank() < limit)
 }

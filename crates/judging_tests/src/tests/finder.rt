@@ -1,2 +1,3 @@
+mod all_faults;
 mod by_rules;
 mod telling;

@@ -3,11 +3,11 @@ use Rattle.std.specs.Prelude.{All}
 use Rattle.certificate_finder.specs.Lining.{positions_in}
 use Rattle.certificate_finder.specs.Offering.{GoesByItself}
 use Rattle.certificate_finder.proofs.DecidingLemmas.{all_alone, all_unsure}
-use Rattle.certificate_finder.proofs.FoundLemmas.{sure_owners_in}
+use Rattle.certificate_finder.proofs.FoundLemmas.{single_owners_in, single_sure}
 use Rattle.certificate_finder.proofs.deciding.try_rule.Goals as goal
 
 pub of-requires-clause-within : goal.of-requires-clause-within
-of-requires-clause-within c = sure_owners_in c.args.steps.now c.args.owners.now c.requires.ready.unsure c.requires.ready.own
+of-requires-clause-within c = single_owners_in c.args.steps.now c.args.owners.now (single_sure c.args.steps.now c.args.owners.now c.requires.ready.unsure c.requires.ready.own)
 
 pub choose-requires-clause-unsure : goal.choose-requires-clause-unsure
 choose-requires-clause-unsure c = all_unsure c.args.steps.now c.args.owners.now c.args.puts.now c.args.links.now c.args.hits.now c.requires.ready

@@ -1,0 +1,53 @@
+-- All that is wrong with a history.
+use Rattle.std.specs.Prelude.{◌≢◌, ℕ, List, [], All, AllPairs, Contains, length, map, slice_get}
+use Rattle.std.specs.Option.{option_map_or}
+use Rattle.trace_file.specs.declared.call.Call.{Call}
+use Rattle.certificate_finder.specs.declared.faults.CrossedWrites.{CrossedWrites}
+use Rattle.certificate_finder.specs.declared.faults.Faults.{Faults}
+use Rattle.certificate_finder.specs.declared.faults.WrongHit.{WrongHit}
+use Rattle.certificate_finder.specs.declared.witness.Side.{Side}
+use Rattle.certificate_finder.specs.Choosing.{IsEarlierBy}
+use Rattle.certificate_finder.specs.Finding.{IsReversed}
+use Rattle.certificate_finder.specs.Lists.{AreAllBelow}
+use Rattle.certificate_finder.specs.Reads.{HasNone}
+use Rattle.certificate_finder.specs.Trying.{AreCrossedBy, AreSure}
+use Rattle.certificate_finder.specs.Turns.{end_at}
+use Rattle.certificate_finder.specs.Witnesses.{AreCrossed, ReadsNone}
+
+-- the positions of some hits
+abbrev pub hits_in : List WrongHit → List ℕ
+hits_in hits = map (λ (wrong : WrongHit). wrong.hit) hits
+
+-- these are all hits that can have read no put, by their ends, each once, with all puts of its key and value and what excludes each
+pub record AreWrongHits (history : List Call) (hits : List WrongHit) : Type 0 where
+  pub each : All (λ (wrong : WrongHit). ReadsNone history wrong.hit wrong.puts.items) hits
+  pub all : (hit : ℕ) → HasNone history hit → Contains (hits_in hits) hit
+  pub order : AllPairs (IsEarlierBy (end_at history)) (hits_in hits)
+
+-- the key of the call at a position
+abbrev pub key_at : List Call → ℕ → List ℕ
+key_at history position = option_map_or (λ call. call.key) (slice_get history position) []
+
+-- the keys of some crossed writes
+abbrev pub keys_in : List Call → List CrossedWrites → List (List ℕ)
+keys_in history crossed = map (λ (writes : CrossedWrites). key_at history writes.one.write) crossed
+
+-- of each key with two writes that are crossed by themselves and by the hits that can have read one put alone, these are two, each key once
+pub record AreCrossedWrites (history : List Call) (crossed : List CrossedWrites) : Type 0 where
+  pub owners : List ℕ
+  pub sure : AreSure history owners
+  pub each : All (λ (writes : CrossedWrites). AreCrossed history writes.one writes.other) crossed
+  pub by_sure : All (λ (writes : CrossedWrites). AreCrossedBy history owners writes.one writes.other) crossed
+  pub all : (one other : Side) (writes : AreCrossedBy history owners one other) → Contains (keys_in history crossed) writes.key
+  pub once : AllPairs (λ (one other : CrossedWrites). key_at history one.one.write ≢ key_at history other.one.write) crossed
+
+-- all faults but the calls that end before they start
+pub record AreFaultsBut (history : List Call) (faults : Faults) : Type 0 where
+  pub hits : AreWrongHits history faults.hits.items
+  pub crossed : AreCrossedWrites history faults.crossed.items
+
+-- all that is wrong with a history: the calls that end before they start, the hits that can have read no put, and the crossed writes of each key
+pub record AreFaults (history : List Call) (faults : Faults) : Type 0 where
+  pub reversed : AreAllBelow (IsReversed history) (length history) faults.reversed.items
+  pub hits : AreWrongHits history faults.hits.items
+  pub crossed : AreCrossedWrites history faults.crossed.items
