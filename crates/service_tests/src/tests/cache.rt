@@ -50,3 +50,11 @@ fn so_many(alloc: Global, count: u32, pages: u32) -> Result<Vec<MemoryDevice<256
     }
     Ok(devices)
 }
+
+// A key of eight bytes for each number. A seed spreads these over the lanes; those of two bytes it can leave in a few.
+fn name_of(number: u8) -> [u8; 8] {
+    let mixed = (u64::from(number) + 1).wrapping_mul(0x9e37_79b9_7f4a_7c15);
+    (mixed ^ mixed >> 29)
+        .wrapping_mul(0xbf58_476d_1ce4_e5b9)
+        .to_be_bytes()
+}

@@ -3,6 +3,7 @@ use super::trials::{ALONE, Outcome, Trial, is_held, try_one};
 use super::*;
 use mover::AnswerKind;
 use record_pages::{KeyFault, MissCause, Tier};
+use service_lane::Lease;
 
 // Whether a get finds these bytes in memory; or nothing, if there are none.
 fn finds<D: PageDevice<256>, L: KeyLanes, J: BookName, R: Wait>(
@@ -24,6 +25,59 @@ fn finds<D: PageDevice<256>, L: KeyLanes, J: BookName, R: Wait>(
     }
 }
 
+/// Puts these bytes of a key, which never expire.
+pub fn put<D: PageDevice<256>, L: KeyLanes, J: BookName, R: Wait>(
+    rt: &R,
+    alloc: Global,
+    cache: &Cache<D, L, J>,
+    seat: &mut Seat<L, J>,
+    name: &[u8],
+    bytes: &[u8],
+) -> Result<Result<Pushed, SeatPutFault>, Fail> {
+    let (key, value) = (key(alloc, name)?, value(alloc, bytes)?);
+    Ok(cache.put(rt, seat, key, value, NEVER))
+}
+
+// Whether a removal is done.
+fn removes<D: PageDevice<256>, L: KeyLanes, J: BookName, R: Wait>(
+    rt: &R,
+    cache: &Cache<D, L, J>,
+    seat: &mut Seat<L, J>,
+    name: &[u8],
+) -> bool {
+    cache.remove(rt, seat, name).is_ok()
+}
+
+// Whether a key is found after its put, and not after its removal.
+fn is_found_until_removed<D: PageDevice<256>, L: KeyLanes, J: BookName, R: Wait>(
+    rt: &R,
+    alloc: Global,
+    cache: &Cache<D, L, J>,
+    seat: &mut Seat<L, J>,
+    name: &[u8],
+) -> Result<bool, Fail> {
+    let is_put = put(rt, alloc, cache, seat, name, name)?.is_ok();
+    let is_found = finds(rt, cache, name, Some(name));
+    let is_removed = removes(rt, cache, seat, name);
+    Ok(is_put && is_found && is_removed && finds(rt, cache, name, None))
+}
+
+// The same of this many keys.
+fn are_found_until_removed<D: PageDevice<256>, L: KeyLanes, J: BookName, R: Wait>(
+    rt: &R,
+    alloc: Global,
+    cache: &Cache<D, L, J>,
+    seat: &mut Seat<L, J>,
+    count: u8,
+) -> Result<bool, Fail> {
+    for number in 0..count {
+        if !is_found_until_removed(rt, alloc, cache, seat, &name_of(number))? {
+            return Ok(false);
+        }
+    }
+    Ok(true)
+}
+
 /// Whether each of this many keys is found after its put, and not after its removal.
 pub fn each_is_found<D: PageDevice<256>, L: KeyLanes, J: BookName, R: Wait>(
     rt: &R,
@@ -31,25 +85,7 @@ pub fn each_is_found<D: PageDevice<256>, L: KeyLanes, J: BookName, R: Wait>(
     cache: &Cache<D, L, J>,
     count: u8,
 ) -> Result<bool, Fail> {
-    let mut seat = cache.seat();
-    for number in 0..count {
-        let name = [b'k', number];
-        let _pushed = cache.put(
-            rt,
-            &mut seat,
-            key(alloc, &name)?,
-            value(alloc, &name)?,
-            NEVER,
-        )?;
-        if !finds(rt, cache, &name, Some(&name)) {
-            return Ok(false);
-        }
-        cache.remove(rt, &mut seat, &name)?;
-        if !finds(rt, cache, &name, None) {
-            return Ok(false);
-        }
-    }
-    Ok(true)
+    are_found_until_removed(rt, alloc, cache, &mut cache.seat(), count)
 }
 
 #[test]
@@ -59,25 +95,49 @@ fn a_key_is_found_after_its_put_in_each_shard(rt: HostRuntime) -> Result<(), Fai
     Ok(())
 }
 
+// The lease of a key that is not there.
+fn leased<D: PageDevice<256>, L: KeyLanes, J: BookName, R: Wait>(
+    rt: &R,
+    cache: &Cache<D, L, J>,
+    seat: &mut Seat<L, J>,
+    name: &[u8],
+) -> Option<Lease> {
+    let mut found = ValueBuffer::empty();
+    match cache.get_or_lease(rt, seat, name, 0, &mut found) {
+        Ok(LookedUp::Miss(MissCause::Absent, lease)) => Some(lease),
+        _ => None,
+    }
+}
+
+// Fills a key by a lease.
+fn filled<D: PageDevice<256>, L: KeyLanes, J: BookName, R: Wait>(
+    rt: &R,
+    alloc: Global,
+    cache: &Cache<D, L, J>,
+    seat: &mut Seat<L, J>,
+    lease: Lease,
+    name: &[u8],
+    bytes: &[u8],
+) -> Result<Result<Filled, SeatPutFault>, Fail> {
+    let (key, value) = (key(alloc, name)?, value(alloc, bytes)?);
+    Ok(cache.fill(rt, seat, lease, key, value, NEVER))
+}
+
 /// Whether a lease is good for one fill, whose value is found then.
 pub fn fills_once<D: PageDevice<256>, L: KeyLanes, J: BookName, R: Wait>(
     rt: &R,
     alloc: Global,
     cache: &Cache<D, L, J>,
 ) -> Result<bool, Fail> {
-    let mut found = ValueBuffer::empty();
     let mut seat = cache.seat();
-    let looked = cache.get_or_lease(rt, &mut seat, b"ax", 0, &mut found)?;
-    let LookedUp::Miss(MissCause::Absent, lease) = looked else {
+    let Some(lease) = leased(rt, cache, &mut seat, b"ax") else {
         return Ok(false);
     };
-    let (name, one) = (key(alloc, b"ax")?, value(alloc, b"1")?);
-    let first = cache.fill(rt, &mut seat, lease, name, one, NEVER)?;
-    let (name, two) = (key(alloc, b"ax")?, value(alloc, b"2")?);
-    let second = cache.fill(rt, &mut seat, lease, name, two, NEVER)?;
+    let first = filled(rt, alloc, cache, &mut seat, lease, b"ax", b"1")?;
+    let second = filled(rt, alloc, cache, &mut seat, lease, b"ax", b"2")?;
     Ok(
-        first == Filled::Stored(Pushed::Nobody)
-            && second == Filled::Stale
+        first == Ok(Filled::Stored(Pushed::Nobody))
+            && second == Ok(Filled::Stale)
             && finds(rt, cache, b"ax", Some(b"1")),
     )
 }
@@ -89,36 +149,35 @@ fn a_miss_leases_its_key_for_one_fill(rt: HostRuntime) -> Result<(), Fail> {
     Ok(())
 }
 
-// Puts and removes a key, so that its slot has seen two writes more.
-fn written<D: PageDevice<256>, L: KeyLanes, J: BookName, R: Wait>(
+// Puts and removes a key, so that its slot has seen two writes more; whether both were done.
+fn is_written<D: PageDevice<256>, L: KeyLanes, J: BookName, R: Wait>(
     rt: &R,
     alloc: Global,
     cache: &Cache<D, L, J>,
     seat: &mut Seat<L, J>,
     name: &[u8],
-) -> Result<(), Fail> {
-    let _pushed = cache.put(rt, seat, key(alloc, name)?, value(alloc, b"0")?, NEVER)?;
-    cache.remove(rt, seat, name)?;
-    Ok(())
+) -> Result<bool, Fail> {
+    let is_put = put(rt, alloc, cache, seat, name, b"0")?.is_ok();
+    Ok(is_put && removes(rt, cache, seat, name))
 }
 
-// Looks a key up that is not there, then writes another key, and fills the first by the lease of the look-up.
+// Looks a key up that is not there, then writes another key, and fills the first by the lease of the look-up. Nothing if one of
+// these calls was refused, or the key was there.
 fn filled_after<D: PageDevice<256>, L: KeyLanes, J: BookName, R: Wait>(
     rt: &R,
     alloc: Global,
     cache: &Cache<D, L, J>,
+    seat: &mut Seat<L, J>,
     name: &[u8],
     other: &[u8],
 ) -> Result<Option<Filled>, Fail> {
-    let mut seat = cache.seat();
-    let mut found = ValueBuffer::empty();
-    let looked = cache.get_or_lease(rt, &mut seat, name, 0, &mut found)?;
-    let LookedUp::Miss(MissCause::Absent, lease) = looked else {
+    let Some(lease) = leased(rt, cache, seat, name) else {
         return Ok(None);
     };
-    written(rt, alloc, cache, &mut seat, other)?;
-    let (name, one) = (key(alloc, name)?, value(alloc, b"1")?);
-    Ok(Some(cache.fill(rt, &mut seat, lease, name, one, NEVER)?))
+    if !is_written(rt, alloc, cache, seat, other)? {
+        return Ok(None);
+    }
+    Ok(filled(rt, alloc, cache, seat, lease, name, b"1")?.ok())
 }
 
 /// Whether a lease is of its key's slot: it outlives writes of a key of another slot, also if its own slot has seen writes, and
@@ -129,13 +188,13 @@ pub fn leases_its_slot<D: PageDevice<256>, L: KeyLanes, J: BookName, R: Wait>(
     cache: &Cache<D, L, J>,
 ) -> Result<bool, Fail> {
     let mut seat = cache.seat();
-    let other = filled_after(rt, alloc, cache, b"ax", b"bx")?;
-    written(rt, alloc, cache, &mut seat, b"ax")?;
-    let once_more = filled_after(rt, alloc, cache, b"ax", b"bx")?;
-    let own = filled_after(rt, alloc, cache, b"cx", b"cx")?;
-    let stored = Some(Filled::Stored(Pushed::Nobody));
+    let other = filled_after(rt, alloc, cache, &mut cache.seat(), b"ax", b"bx")?;
+    let is_written = is_written(rt, alloc, cache, &mut seat, b"ax")?;
+    let once_more = filled_after(rt, alloc, cache, &mut cache.seat(), b"ax", b"bx")?;
+    let own = filled_after(rt, alloc, cache, &mut cache.seat(), b"cx", b"cx")?;
     Ok(
-        other == stored
+        other == Some(Filled::Stored(Pushed::Nobody))
+            && is_written
             && once_more.is_some()
             && once_more != Some(Filled::Stale)
             && own == Some(Filled::Stale)
@@ -145,7 +204,8 @@ pub fn leases_its_slot<D: PageDevice<256>, L: KeyLanes, J: BookName, R: Wait>(
 
 #[test]
 fn a_lease_is_of_the_slot_of_its_key(rt: HostRuntime) -> Result<(), Fail> {
-    let seed = RandomSeed::draw(&rt)?;
+    // Under one seed of a thousand the two keys share a slot.
+    let seed = RandomSeed::fixed();
     let outcome = try_one(&rt, rt.alloc(), ALONE, seed, Trial::LeasesItsSlot)?;
     assert_eq!(rt; outcome, Outcome::Held(true));
     Ok(())
@@ -158,11 +218,13 @@ pub fn removes_at_large_puts<D: PageDevice<256>, L: KeyLanes, J: BookName, R: Wa
     cache: &Cache<D, L, J>,
 ) -> Result<bool, Fail> {
     let mut seat = cache.seat();
-    let small = value(alloc, b"1")?;
-    let _pushed = cache.put(rt, &mut seat, key(alloc, b"ax")?, small, NEVER)?;
-    let large = value(alloc, &[7; 225])?;
-    let put = cache.put(rt, &mut seat, key(alloc, b"ax")?, large, NEVER);
-    Ok(put == Err(SeatPutFault::Put(PutFault::TooLarge)) && finds(rt, cache, b"ax", None))
+    let small = put(rt, alloc, cache, &mut seat, b"ax", b"1")?;
+    let large = put(rt, alloc, cache, &mut seat, b"ax", &[7; 225])?;
+    Ok(
+        small.is_ok()
+            && large == Err(SeatPutFault::Put(PutFault::TooLarge))
+            && finds(rt, cache, b"ax", None),
+    )
 }
 
 #[test]
@@ -172,6 +234,37 @@ fn a_refused_put_leaves_no_older_value(rt: HostRuntime) -> Result<(), Fail> {
     Ok(())
 }
 
+// Why a look-up of these bytes is refused.
+fn fault_of_get<D: PageDevice<256>, L: KeyLanes, J: BookName, R: Wait>(
+    rt: &R,
+    cache: &Cache<D, L, J>,
+    bytes: &[u8],
+) -> Option<SeatFault> {
+    let mut found = ValueBuffer::empty();
+    cache.get(rt, &mut cache.seat(), bytes, 0, &mut found).err()
+}
+
+// Why a look-up that leases is.
+fn fault_of_lease<D: PageDevice<256>, L: KeyLanes, J: BookName, R: Wait>(
+    rt: &R,
+    cache: &Cache<D, L, J>,
+    bytes: &[u8],
+) -> Option<SeatFault> {
+    let mut found = ValueBuffer::empty();
+    cache
+        .get_or_lease(rt, &mut cache.seat(), bytes, 0, &mut found)
+        .err()
+}
+
+// Why a removal is.
+fn fault_of_removal<D: PageDevice<256>, L: KeyLanes, J: BookName, R: Wait>(
+    rt: &R,
+    cache: &Cache<D, L, J>,
+    bytes: &[u8],
+) -> Option<SeatFault> {
+    cache.remove(rt, &mut cache.seat(), bytes).err()
+}
+
 // Whether each call by bytes refuses these bytes so.
 fn refuses<D: PageDevice<256>, L: KeyLanes, J: BookName, R: Wait>(
     rt: &R,
@@ -179,12 +272,10 @@ fn refuses<D: PageDevice<256>, L: KeyLanes, J: BookName, R: Wait>(
     bytes: &[u8],
     fault: KeyFault,
 ) -> bool {
-    let mut seat = cache.seat();
-    let mut found = ValueBuffer::empty();
-    let fault = SeatFault::Key(fault);
-    cache.get(rt, &mut seat, bytes, 0, &mut found) == Err(fault)
-        && cache.get_or_lease(rt, &mut seat, bytes, 0, &mut found) == Err(fault)
-        && cache.remove(rt, &mut seat, bytes) == Err(fault)
+    let fault = Some(SeatFault::Key(fault));
+    fault_of_get(rt, cache, bytes) == fault
+        && fault_of_lease(rt, cache, bytes) == fault
+        && fault_of_removal(rt, cache, bytes) == fault
 }
 
 /// Whether bytes that are no key's are refused, each for its reason.

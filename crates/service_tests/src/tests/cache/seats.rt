@@ -63,22 +63,44 @@ fn refused_calls<D: PageDevice<256>, L: KeyLanes, J: BookName, R: Wait>(
     cache: &Cache<D, L, J>,
 ) -> u32 {
     let mut seat = cache.seat();
-    let mut found = ValueBuffer::empty();
     let mut refused: u32 = 0;
     for number in 0..CALLS {
         let letters = [b'k', (number % 8) as u8, b'l', b'm'];
         let name = &letters[..1 + (number % 4) as usize];
         refused = refused.wrapping_add(put_refused(rt, alloc, cache, &mut seat, name));
-        if let Err(SeatFault::Book(_)) = cache.get(rt, &mut seat, name, 0, &mut found) {
-            refused = refused.wrapping_add(1);
-        }
-        if number % 5 == 0
-            && let Err(SeatFault::Book(_)) = cache.remove(rt, &mut seat, name)
-        {
-            refused = refused.wrapping_add(1);
+        refused = refused.wrapping_add(get_refused(rt, cache, &mut seat, name));
+        if number % 5 == 0 {
+            refused = refused.wrapping_add(remove_refused(rt, cache, &mut seat, name));
         }
     }
     refused
+}
+
+// Looks a key up: 1 if the book refuses that.
+fn get_refused<D: PageDevice<256>, L: KeyLanes, J: BookName, R: Wait>(
+    rt: &R,
+    cache: &Cache<D, L, J>,
+    seat: &mut Seat<L, J>,
+    name: &[u8],
+) -> u32 {
+    let mut found = ValueBuffer::empty();
+    match cache.get(rt, seat, name, 0, &mut found) {
+        Err(SeatFault::Book(_)) => 1,
+        _ => 0,
+    }
+}
+
+// Removes a key: 1 if the book refuses that.
+fn remove_refused<D: PageDevice<256>, L: KeyLanes, J: BookName, R: Wait>(
+    rt: &R,
+    cache: &Cache<D, L, J>,
+    seat: &mut Seat<L, J>,
+    name: &[u8],
+) -> u32 {
+    match cache.remove(rt, seat, name) {
+        Err(SeatFault::Book(_)) => 1,
+        _ => 0,
+    }
 }
 
 // Puts a value of a key: 1 if the book refuses that.

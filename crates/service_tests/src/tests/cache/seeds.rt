@@ -1,5 +1,6 @@
 //! What the seed of a cache decides, and the numbers that show only in what leaves memory.
 use super::caller::calls;
+use super::calls::put;
 use super::trials::{ALONE, Outcome, Trial, try_one};
 use super::*;
 use service_lane::Counter;
@@ -22,26 +23,28 @@ const STRICT: Config = Config {
     ..ALONE
 };
 
-/// Which of 64 puts of new keys push out an object that is not admitted, a bit for each.
+// Which of 64 puts of new keys with a seat push out an object that is not admitted, a bit for each.
+fn declined_of<D: PageDevice<256>, L: KeyLanes, J: BookName, R: Wait>(
+    rt: &R,
+    alloc: Global,
+    cache: &Cache<D, L, J>,
+    seat: &mut Seat<L, J>,
+) -> Result<u64, Fail> {
+    let mut bits = 0;
+    for number in 0..64u8 {
+        let pushed = put(rt, alloc, cache, seat, &[b'k', number], b"1")??;
+        bits = bits << 1 | u64::from(pushed == Pushed::Declined);
+    }
+    Ok(bits)
+}
+
+/// The same, with a new seat.
 pub fn declined<D: PageDevice<256>, L: KeyLanes, J: BookName, R: Wait>(
     rt: &R,
     alloc: Global,
     cache: &Cache<D, L, J>,
 ) -> Result<u64, Fail> {
-    let mut seat = cache.seat();
-    let mut bits = 0;
-    for number in 0..64u8 {
-        let name = [b'k', number];
-        let pushed = cache.put(
-            rt,
-            &mut seat,
-            key(alloc, &name)?,
-            value(alloc, b"1")?,
-            NEVER,
-        )?;
-        bits = bits << 1 | u64::from(pushed == Pushed::Declined);
-    }
-    Ok(bits)
+    declined_of(rt, alloc, cache, &mut cache.seat())
 }
 
 #[test]
@@ -77,27 +80,46 @@ fn first_other(one: &[u64; 4], two: &[u64; 4]) -> u64 {
     4
 }
 
-/// The lanes of 16 keys, four bits for each: the lane whose count their put raised.
+// A number to the base 5 with one digit more.
+fn with_digit(number: u64, digit: u64) -> u64 {
+    number.wrapping_mul(5).wrapping_add(digit)
+}
+
+// The lane whose count a put of a new key raises, or 4 if none.
+fn lane_of<D: PageDevice<256>, L: KeyLanes, J: BookName, R: Wait>(
+    rt: &R,
+    alloc: Global,
+    cache: &Cache<D, L, J>,
+    seat: &mut Seat<L, J>,
+    name: &[u8],
+) -> Result<u64, Fail> {
+    let before = stored(rt, cache);
+    let _pushed = put(rt, alloc, cache, seat, name, b"1")??;
+    Ok(first_other(&before, &stored(rt, cache)))
+}
+
+// The lanes of 27 keys, as digits to the base 5. Two seeds give all of them the same lanes at odds of one in 10^16.
+fn lanes_of<D: PageDevice<256>, L: KeyLanes, J: BookName, R: Wait>(
+    rt: &R,
+    alloc: Global,
+    cache: &Cache<D, L, J>,
+    seat: &mut Seat<L, J>,
+) -> Result<u64, Fail> {
+    let mut lanes = 0;
+    for number in 0..27u8 {
+        let lane = lane_of(rt, alloc, cache, seat, &name_of(number))?;
+        lanes = with_digit(lanes, lane);
+    }
+    Ok(lanes)
+}
+
+/// The same, with a new seat.
 pub fn lanes_of_keys<D: PageDevice<256>, L: KeyLanes, J: BookName, R: Wait>(
     rt: &R,
     alloc: Global,
     cache: &Cache<D, L, J>,
 ) -> Result<u64, Fail> {
-    let mut seat = cache.seat();
-    let mut lanes = 0;
-    for number in 0..16u8 {
-        let name = [b'k', number];
-        let before = stored(rt, cache);
-        let _pushed = cache.put(
-            rt,
-            &mut seat,
-            key(alloc, &name)?,
-            value(alloc, b"1")?,
-            NEVER,
-        )?;
-        lanes = lanes << 4 | first_other(&before, &stored(rt, cache));
-    }
-    Ok(lanes)
+    lanes_of(rt, alloc, cache, &mut cache.seat())
 }
 
 #[test]

@@ -3,14 +3,16 @@ ghost use Rattle.std.specs.Prelude.{◌<◌};
 ghost use Rattle.service_cache.specs.Serving.{lanes_of};
 
 use super::caller::calls;
+use super::calls::put;
 use super::trials::{Trial, is_held};
 use super::*;
 use klog::Flushed;
 use mover::MovedWhole;
 use service_lane::{Counter, Upkept, what_is_due};
 
-// How often each lane is tended once, and how many calls are made before each time: so many bring about that upkeep is due.
-const ROUNDS: u8 = 8;
+// How often each lane is tended once, and how many calls are made before each time: so many bring about that upkeep is due, and so
+// often that some step writes a page whatever the seed.
+const ROUNDS: u8 = 100;
 
 const CALLS: u32 = 500;
 
@@ -104,24 +106,45 @@ fn a_step_of_upkeep_is_of_its_lane(rt: HostRuntime) -> Result<(), Fail> {
 }
 
 // Puts 255 new keys that never expire, so that the memory of each of four lanes is full whatever the seed, but for odds of one in
-// 10^30.
+// 10^16.
 fn fill_memory<D: PageDevice<256>, L: KeyLanes, J: BookName, R: Wait>(
     rt: &R,
     alloc: Global,
     cache: &Cache<D, L, J>,
+    seat: &mut Seat<L, J>,
 ) -> Result<(), Fail> {
-    let mut seat = cache.seat();
     for number in 0..255u8 {
-        let name = [b'k', number];
-        cache.put(
-            rt,
-            &mut seat,
-            key(alloc, &name)?,
-            value(alloc, b"1")?,
-            NEVER,
-        )?;
+        let _pushed = put(rt, alloc, cache, seat, &name_of(number), b"1")??;
     }
     Ok(())
+}
+
+// Whether a lane has the small lanes' numbers.
+fn is_small<D: PageDevice<256>, L: KeyLanes, J: BookName, R: Wait>(
+    rt: &R,
+    cache: &Cache<D, L, J>,
+    lane: u32,
+) -> bool
+    requires { lane < lanes_of cache.now }
+{
+    let usage = cache.log_usage(rt, lane);
+    usage.segments == SMALL.segments
+        && usage.segment_pages == SMALL.segment_pages
+        && usage.limit == SMALL.entries
+        && cache.memory_len(rt, lane) == SMALL.memory as usize
+}
+
+// Whether each lane has.
+fn are_small<D: PageDevice<256>, L: KeyLanes, J: BookName, R: Wait>(
+    rt: &R,
+    cache: &Cache<D, L, J>,
+) -> bool {
+    for lane in 0..cache.lanes() {
+        if !is_small(rt, cache, lane) {
+            return false;
+        }
+    }
+    true
 }
 
 /// Whether each lane of a cache of small lanes, filled by many calls, has the small lanes' numbers.
@@ -131,18 +154,8 @@ pub fn has_its_numbers<D: PageDevice<256>, L: KeyLanes, J: BookName, R: Wait>(
     cache: &Cache<D, L, J>,
 ) -> Result<bool, Fail> {
     let _tally = calls(rt, alloc, cache, 7, 4 * CALLS);
-    fill_memory(rt, alloc, cache)?;
-    for lane in 0..cache.lanes() {
-        let usage = cache.log_usage(rt, lane);
-        if usage.segments != SMALL.segments
-            || usage.segment_pages != SMALL.segment_pages
-            || usage.limit != SMALL.entries
-            || cache.memory_len(rt, lane) != SMALL.memory as usize
-        {
-            return Ok(false);
-        }
-    }
-    Ok(cache.layout() == SMALL.check().unwrap() && cache.lanes() == 4)
+    fill_memory(rt, alloc, cache, &mut cache.seat())?;
+    Ok(are_small(rt, cache) && cache.layout() == SMALL.check().unwrap() && cache.lanes() == 4)
 }
 
 #[test]

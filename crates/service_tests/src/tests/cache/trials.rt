@@ -152,7 +152,8 @@ fn holds<
 >(rt: &R, alloc: Global, cache: &Cache<D, L, J>, trial: Trial) -> Result<bool, Fail> {
     match trial {
         Trial::Opens => Ok(true),
-        Trial::FindsKeys => each_is_found(rt, alloc, cache, 60),
+        // So many that each of four shards has some whatever the seed, but for odds of one in 10^16.
+        Trial::FindsKeys => each_is_found(rt, alloc, cache, 255),
         Trial::FillsOnce => fills_once(rt, alloc, cache),
         Trial::LeasesItsSlot => leases_its_slot(rt, alloc, cache),
         Trial::RemovesAtLargePuts => removes_at_large_puts(rt, alloc, cache),

@@ -80,34 +80,68 @@ fn gives<D: PageDevice<PAGE>, const PAGE: usize>(
         Step::GoneInstead(name, bytes) => {
             Ok(put_or_remove(alloc, lane, name, bytes)? == Err(PutFault::TooLarge))
         }
-        Step::Get(name, moment, found) => Ok(is_found(lane, name, *moment, found)),
-        Step::Remove(name) => Ok(lane.remove(name) == Ok(())),
-        Step::NoKey(few, many) => Ok(are_refused(lane, few, many)),
-        Step::Lease(place, name) => {
-            leases[*place % 2] = lane.lease(name);
-            Ok(true)
-        }
         Step::Fill(place, name, bytes, filled) => {
             Ok(fill(alloc, lane, leases[*place % 2], name, bytes)? == Ok(*filled))
         }
-        Step::Flush(flushed) => Ok(lane.flush_step() == *flushed),
         Step::Move(wanted) => Ok(moved(lane)? == *wanted),
-        Step::Tend(did, asked_device, is_due) => Ok(
-            lane.upkeep_step(&Rriparoo)
-                == UpkeepStep {
-                    did: *did,
-                    asked_device: *asked_device,
-                    is_due: *is_due,
-                },
-        ),
-        Step::Help(steps, asked_device) => Ok(
-            lane.help(&Rriparoo)
-                == Helped {
-                    steps: *steps,
-                    asked_device: *asked_device,
-                },
-        ),
+        other => Ok(answers(lane, leases, other)),
     }
+}
+
+// The same of the calls that take no memory.
+fn answers<D: PageDevice<PAGE>, const PAGE: usize>(
+    lane: &mut ServiceLane<D, PAGE>,
+    leases: &mut [Lease; 2],
+    step: &Step,
+) -> bool {
+    match step {
+        Step::Get(name, moment, found) => is_found(lane, name, *moment, found),
+        Step::Remove(name) => is_removed(lane, name),
+        Step::NoKey(few, many) => are_refused(lane, few, many),
+        Step::Lease(place, name) => {
+            leases[*place % 2] = leased(lane, name);
+            true
+        }
+        Step::Flush(flushed) => flushes(lane) == *flushed,
+        Step::Tend(did, asked_device, is_due) => tends(lane)
+            == UpkeepStep {
+                did: *did,
+                asked_device: *asked_device,
+                is_due: *is_due,
+            },
+        Step::Help(steps, asked_device) => helps(lane)
+            == Helped {
+                steps: *steps,
+                asked_device: *asked_device,
+            },
+        _ => false,
+    }
+}
+
+fn is_removed<D: PageDevice<PAGE>, const PAGE: usize>(
+    lane: &mut ServiceLane<D, PAGE>,
+    name: &[u8],
+) -> bool {
+    lane.remove(name).is_ok()
+}
+
+fn leased<D: PageDevice<PAGE>, const PAGE: usize>(
+    lane: &mut ServiceLane<D, PAGE>,
+    name: &[u8],
+) -> Lease {
+    lane.lease(name)
+}
+
+fn flushes<D: PageDevice<PAGE>, const PAGE: usize>(lane: &mut ServiceLane<D, PAGE>) -> Flushed {
+    lane.flush_step()
+}
+
+fn tends<D: PageDevice<PAGE>, const PAGE: usize>(lane: &mut ServiceLane<D, PAGE>) -> UpkeepStep {
+    lane.upkeep_step(&Rriparoo)
+}
+
+fn helps<D: PageDevice<PAGE>, const PAGE: usize>(lane: &mut ServiceLane<D, PAGE>) -> Helped {
+    lane.help(&Rriparoo)
 }
 
 // Puts a pair, once more if memory was refused.
@@ -189,14 +223,30 @@ fn is_found<D: PageDevice<PAGE>, const PAGE: usize>(
     }
 }
 
+// Why a look-up of these bytes is refused.
+fn fault_of_get<D: PageDevice<PAGE>, const PAGE: usize>(
+    lane: &mut ServiceLane<D, PAGE>,
+    bytes: &[u8],
+) -> Option<KeyFault> {
+    let mut found = ValueBuffer::empty();
+    lane.get(bytes, 0, &mut found).err()
+}
+
+// Why a removal of these bytes is refused.
+fn fault_of_removal<D: PageDevice<PAGE>, const PAGE: usize>(
+    lane: &mut ServiceLane<D, PAGE>,
+    bytes: &[u8],
+) -> Option<KeyFault> {
+    lane.remove(bytes).err()
+}
+
 fn are_refused<D: PageDevice<PAGE>, const PAGE: usize>(
     lane: &mut ServiceLane<D, PAGE>,
     few: &[u8],
     many: &[u8],
 ) -> bool {
-    let mut found = ValueBuffer::empty();
-    lane.get(few, 0, &mut found) == Err(KeyFault::KeyEmpty)
-        && lane.get(many, 0, &mut found) == Err(KeyFault::KeyTooLong)
-        && lane.remove(few) == Err(KeyFault::KeyEmpty)
-        && lane.remove(many) == Err(KeyFault::KeyTooLong)
+    fault_of_get(lane, few) == Some(KeyFault::KeyEmpty)
+        && fault_of_get(lane, many) == Some(KeyFault::KeyTooLong)
+        && fault_of_removal(lane, few) == Some(KeyFault::KeyEmpty)
+        && fault_of_removal(lane, many) == Some(KeyFault::KeyTooLong)
 }
