@@ -61,7 +61,7 @@ static void step_in_lane(client *of, const ks_wanted *wanted, ks_turn *turn, uin
     kl_lane *lane = &of->lanes[wanted->place.lane];
     kl_step upkeep;
     expect(wanted->place.lane < LANES, "a lane that there is");
-    turn->cas = of->cas++;
+    if (wanted->argument != 0) turn->cas = of->cas++;
     of->lane_steps++;
     ks_lane_step(&of->session, lane, turn, of->unread.at, of->unread.length, answer, KS_MOST_ANSWER, done, &is_due);
     if (is_due != 0) kl_upkeep_step(lane, &upkeep);
