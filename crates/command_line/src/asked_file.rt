@@ -99,11 +99,7 @@ fn number_to(text: &str, most: u64) -> Option<u64>
     let Ok(number) = text.parse::<u64>() else {
         return None;
     };
-    if number <= most {
-        Some(number)
-    } else {
-        None
-    }
+    if number <= most { Some(number) } else { None }
 }
 
 /// The number that was found for an option, 0 if none was; none if that is no number, or a greater one than this.
@@ -128,12 +124,7 @@ pub(crate) fn judge_line<'a>(alloc: Global, found: &ArgMatches<'a>) -> Result<Li
             Ok(line) => Ok(line),
             Err(fault) => Err(fault),
         },
-        None => Err(no_number_to(
-            alloc,
-            "at-least",
-            MOST_CALLS,
-            given(found, "at-least"),
-        )),
+        None => Err(no_number_to(alloc, "at-least", MOST_CALLS, given(found, "at-least"))),
     }
 }
 
@@ -154,12 +145,7 @@ fn judge_line_with<'a>(
             Ok(line) => Ok(line),
             Err(fault) => Err(fault),
         },
-        None => Err(no_number_to(
-            alloc,
-            "skew",
-            MOST_SKEW,
-            given(found, "skew"),
-        )),
+        None => Err(no_number_to(alloc, "skew", MOST_SKEW, given(found, "skew"))),
     }
 }
 

@@ -6,8 +6,8 @@ use Rattle.command_line.proofs.CallNumbers.{read, small_most, unread}
 use Rattle.command_line.proofs.asked_file.number_to.Goals as goal
 
 pub returns-in_default : goal.returns-in_default
-returns-in_default c = unread (λ n. nat_le n c.args.most) (2 ^ 64) c.args.text.now (small_most c.args.most (omega (arith, c.args.in_range.most))) c.in_default.ensures.value.0
+returns-in_default c = unread (λ n. nat_le n c.args.most) (2 ^ 64) c.args.text.now (small_most c.args.most (omega (arith, c.ranges.most))) c.in_default.ensures.value.0
 
-pub returns-then-number-le-most : goal.returns-then-number-le-most
-returns-then-number-le-most c =
-    read (λ n. nat_le n c.args.most) (2 ^ 64) c.args.text.now c.in-Ok.number c.in-Ok.ensures.value.0 (le-leb c.in-Ok.number c.args.most (omega (arith, c.if-number-le-most.true)))
+pub returns-then-number-most : goal.returns-then-number-most
+returns-then-number-most c =
+    read (λ n. nat_le n c.args.most) (2 ^ 64) c.args.text.now c.in-Ok.number c.in-Ok.ensures.value.0 (le-leb c.in-Ok.number c.args.most (omega (arith, c.if-number-most.true)))

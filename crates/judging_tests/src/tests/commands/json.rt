@@ -88,7 +88,16 @@ const CASES: [Case; 10] = [
 fn judged(alloc: Global, text: &str, explain: bool, told: &mut Vec<u8>) -> Option<Outcome> {
     let known: BuildHasherDefault<FoldHasher> = BuildHasherDefault::new();
     let mut reader = text.as_bytes();
-    answer_judge(alloc, known, Form::Json, Scope::WHOLE, explain, &mut reader, told).ok()
+    answer_judge(
+        alloc,
+        known,
+        Form::Json,
+        Scope::WHOLE,
+        explain,
+        &mut reader,
+        told,
+    )
+    .ok()
 }
 
 /// Whether a case is told as it should be.

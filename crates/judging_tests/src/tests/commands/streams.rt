@@ -49,7 +49,16 @@ fn fault_of_text<R: Read, W: Write>(
     writer: &mut W,
 ) -> Option<TellFault> {
     let known: BuildHasherDefault<FoldHasher> = BuildHasherDefault::new();
-    answer_judge(alloc, known, Form::Lines, Scope::WHOLE, true, reader, writer).err()
+    answer_judge(
+        alloc,
+        known,
+        Form::Lines,
+        Scope::WHOLE,
+        true,
+        reader,
+        writer,
+    )
+    .err()
 }
 
 /// Whether a text that is not read is a fault, and nothing is told.
