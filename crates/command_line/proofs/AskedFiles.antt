@@ -12,8 +12,8 @@ module _ (rows : List Row) where
   pub no_check : None ≡ first_of (codes "FILE") rows → IsSome (check_wanted rows) → ⊥
   no_check is some = no_file _ (first_of (codes "FILE") rows) is some
 
-  pub no_judging : (least : ℕ) → None ≡ first_of (codes "FILE") rows → IsSome (judge_wanted_of rows least) → ⊥
-  no_judging least is some = no_file _ (first_of (codes "FILE") rows) is some
+  pub no_judging : (least skew : ℕ) → None ≡ first_of (codes "FILE") rows → IsSome (judge_wanted_of rows least skew) → ⊥
+  no_judging least skew is some = no_file _ (first_of (codes "FILE") rows) is some
 
   pub no_showing : None ≡ first_of (codes "FILE") rows → IsSome (show_wanted rows) → ⊥
   no_showing is some = no_file _ (first_of (codes "FILE") rows) is some
@@ -24,10 +24,10 @@ module _ (rows : List Row) where
         ap (option_map (λ f. Checked f (is_on (codes "explain") rows) (is_on (codes "json") rows) (first_of (codes "picture") rows))) (sym found)
         ∙ (λ i. Some (Checked file (sym e i) (sym j i) (sym p i)))
 
-    pub asks_judging : (least : ℕ) (explain json : Bool) (picture trace : Option Text) → explain ≡ is_on (codes "explain") rows → json ≡ is_on (codes "json") rows → picture ≡ first_of (codes "picture") rows → trace ≡ first_of (codes "trace") rows → judge_wanted_of rows least ≡ Some (Judged file explain json picture trace least)
-    asks_judging least explain json picture trace e j p t =
-        ap (option_map (λ f. Judged f (is_on (codes "explain") rows) (is_on (codes "json") rows) (first_of (codes "picture") rows) (first_of (codes "trace") rows) least)) (sym found)
-        ∙ (λ i. Some (Judged file (sym e i) (sym j i) (sym p i) (sym t i) least))
+    pub asks_judging : (least skew : ℕ) (explain json : Bool) (picture trace : Option Text) → explain ≡ is_on (codes "explain") rows → json ≡ is_on (codes "json") rows → picture ≡ first_of (codes "picture") rows → trace ≡ first_of (codes "trace") rows → judge_wanted_of rows least skew ≡ Some (Judged file explain json picture trace least skew)
+    asks_judging least skew explain json picture trace e j p t =
+        ap (option_map (λ f. Judged f (is_on (codes "explain") rows) (is_on (codes "json") rows) (first_of (codes "picture") rows) (first_of (codes "trace") rows) least skew)) (sym found)
+        ∙ (λ i. Some (Judged file (sym e i) (sym j i) (sym p i) (sym t i) least skew))
 
     pub asks_showing : (key : Option Text) → key ≡ first_of (codes "key") rows → show_wanted rows ≡ Some (Shown file key)
     asks_showing key k =

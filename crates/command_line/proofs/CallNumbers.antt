@@ -46,6 +46,6 @@ module _ (test : ℕ → Bool) (most : ℕ) (text : List ℕ) where
   pub unread : ((n : ℕ) → test n ≡ true → n < most) → ¬ (IsNumeral 10 (without_leading_plus text) × (digits_value 10 (without_leading_plus text) < most)) → None ≡ (if is_decimal text && test (value_of_text text) then Some (value_of_text text) else None)
   unread small h = refused_by _ _ refl refl (λ d a. h (unnumeral text d, small (value_of_text text) a))
 
--- what a history may have is a number of 32 bits
-pub small_calls : (n : ℕ) → nat_le n 268435456 ≡ true → n < 2 ^ 32
-small_calls n a = let most : n ≤ 268435456 = grind (arith, common_steps) in omega (arith, most)
+-- what is at most a number of 64 bits is one
+pub small_most : (most : ℕ) → most < 2 ^ 64 → (n : ℕ) → nat_le n most ≡ true → n < 2 ^ 64
+small_most most few n a = let less : n ≤ most = grind (arith, common_steps) in omega (arith, less, few)

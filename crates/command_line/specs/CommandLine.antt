@@ -1,5 +1,5 @@
 -- The program's command line: what it takes, and what its words ask for.
-use Rattle.std.specs.Prelude.{◌≡◌, ◌≢◌, ◌⊎◌, ◌&&◌, ℕ, Bool, List, [], ◌∷◌, Option, Some, None, codes, fold, is_some, map, nat_le, not, option_and_then, option_map, string_bytes, true, false, unwrap_or, if◌then◌else◌}
+use Rattle.std.specs.Prelude.{◌≡◌, ◌≢◌, ◌⊎◌, ◌&&◌, ℕ, Bool, List, [], ◌∷◌, Option, Some, None, codes, fold, is_some, map, nat_le, nat_lt, not, option_and_then, option_map, string_bytes, true, false, unwrap_or, if◌then◌else◌}
 use Rattle.std.specs.List.{find, list_all}
 use Rattle.std.specs.Option.{option_map_or}
 use Rattle.std.specs.Str.{bytes_eq}
@@ -68,6 +68,10 @@ out_rule = record (new_rule (codes "trace")) { long = Some (codes "trace"); valu
 abbrev pub least_rule : Rule
 least_rule = record (new_rule (codes "at-least")) { long = Some (codes "at-least"); value_names = 1 }
 
+-- by how much each stamp may differ from the truth
+abbrev pub skew_rule : Rule
+skew_rule = record (new_rule (codes "skew")) { long = Some (codes "skew"); value_names = 1 }
+
 -- the key whose calls alone are written
 abbrev pub key_rule : Rule
 key_rule = record (new_rule (codes "key")) { long = Some (codes "key"); value_names = 1 }
@@ -80,9 +84,9 @@ with_history app = with_rule (with_rule (with_rule (with_rule app file_rule) exp
 abbrev pub check_command : App
 check_command = with_history (new_app (codes "check"))
 
--- judge FILE, with two flags and three options
+-- judge FILE, with two flags and four options
 abbrev pub judge_command : App
-judge_command = with_rule (with_rule (with_history (new_app (codes "judge"))) out_rule) least_rule
+judge_command = with_rule (with_rule (with_rule (with_history (new_app (codes "judge"))) out_rule) least_rule) skew_rule
 
 -- show FILE, with an option
 abbrev pub show_command : App
@@ -126,7 +130,7 @@ program = with_loads (with_judging scripts_program)
 
 -- that a script is answered; that the trace in a file of this name is judged, with why it is rejected if the first flag is on, told as
 -- a JSON object if the second is, and drawn to this file if one is named; that the history in a file of this name is judged so, and
--- written to this file as a trace if one is named, and has to have so many calls if it is accepted; that the trace in a file of this name is written as text, only the calls of this
+-- written to this file as a trace if one is named, and has to have so many calls if it is accepted, with stamps that may differ from the truth by so much; that the trace in a file of this name is written as text, only the calls of this
 -- key if one is named; that a load with these numbers, one for each of its settings in their order, is run, told as a JSON object if
 -- the flag is on, over files of this folder or in memory if there is none, and its trace written to a file of this name; or that a
 -- load of a cache that serves is run with such numbers, for so many bytes of flash and of memory if they are given, with keys by Zipf's
@@ -134,7 +138,7 @@ program = with_loads (with_judging scripts_program)
 pub data Wanted : Type 0 where
   Replies : Wanted
   Checked : Text → Bool → Bool → Option Text → Wanted
-  Judged : Text → Bool → Bool → Option Text → Option Text → ℕ → Wanted
+  Judged : Text → Bool → Bool → Option Text → Option Text → ℕ → ℕ → Wanted
   Shown : Text → Option Text → Wanted
   Loaded : List ℕ → Bool → Option Text → Text → Wanted
   Served : List ℕ → Option ℕ → Option ℕ → Bool → Bool → Option Text → Wanted
@@ -143,7 +147,7 @@ pub data Wanted : Type 0 where
 abbrev pub wanted_of : Line → Wanted
 wanted_of Script = Replies
 wanted_of (Check request) = Checked request.file request.explain request.json request.picture
-wanted_of (Judge request) = Judged request.file request.explain request.json request.picture request.trace request.at_least
+wanted_of (Judge request) = Judged request.file request.explain request.json request.picture request.trace request.at_least request.scope.skew
 wanted_of (Show request) = Shown request.file (option_map string_bytes request.key)
 wanted_of (Run load) = Loaded (numbers_of load) load.json load.device load.trace
 wanted_of (Serve load) = Served (served_numbers_of load) load.size load.memory_bytes load.zipf load.json load.device
@@ -157,27 +161,41 @@ abbrev pub check_wanted : List Row → Option Wanted
 check_wanted rows =
     option_map (λ file. Checked file (is_on (codes "explain") rows) (is_on (codes "json") rows) (first_of (codes "picture") rows)) (first_of (codes "FILE") rows)
 
--- the number of calls that a text writes, if it writes one that a history may have
-abbrev pub calls_in : Text → Option ℕ
-calls_in text = if is_decimal text && nat_le (value_of_text text) 268435456 then Some (value_of_text text) else None
+-- the number that a text writes, if it is at most this one
+abbrev pub number_to : ℕ → Text → Option ℕ
+number_to most text = if is_decimal text && nat_le (value_of_text text) most then Some (value_of_text text) else None
 
--- how many calls an accepted history has to have, by what was found for the option: none if nothing was, and there is nothing if that
--- is no number that a history may have
-abbrev pub calls_given : Option Text → Option ℕ
-calls_given None = Some 0
-calls_given (Some text) = calls_in text
+-- the number that was found for an option: 0 if nothing was, and there is nothing if that is no number, or a greater one than this
+abbrev pub number_given : ℕ → Option Text → Option ℕ
+number_given most None = Some 0
+number_given most (Some text) = number_to most text
 
+abbrev pub number_found_to : Text → ℕ → List Row → Option ℕ
+number_found_to option most rows = number_given most (first_of option rows)
+
+-- how many calls an accepted history has to have
 abbrev pub least_found : List Row → Option ℕ
-least_found rows = calls_given (first_of (codes "at-least") rows)
+least_found rows = number_found_to (codes "at-least") 268435456 rows
 
--- the judging that was found, of which an accepted history has to have so many calls
-abbrev pub judge_wanted_of : List Row → ℕ → Option Wanted
-judge_wanted_of rows least =
-    option_map (λ file. Judged file (is_on (codes "explain") rows) (is_on (codes "json") rows) (first_of (codes "picture") rows) (first_of (codes "trace") rows) least) (first_of (codes "FILE") rows)
+-- by how much each stamp may differ from the truth
+abbrev pub skew_found : List Row → Option ℕ
+skew_found rows = number_found_to (codes "skew") 9223372036854775807 rows
+
+-- the judging that was found, of which an accepted history has to have so many calls, with stamps that may differ by so much
+abbrev pub judge_wanted_of : List Row → ℕ → ℕ → Option Wanted
+judge_wanted_of rows least skew =
+    option_map (λ file. Judged file (is_on (codes "explain") rows) (is_on (codes "json") rows) (first_of (codes "picture") rows) (first_of (codes "trace") rows) least skew) (first_of (codes "FILE") rows)
+
+-- the same, unless a trace is to be written of calls whose stamps may differ
+abbrev pub judge_wanted_by : List Row → ℕ → ℕ → Option Wanted
+judge_wanted_by rows least skew = if is_some (first_of (codes "trace") rows) && nat_lt 0 skew then None else judge_wanted_of rows least skew
 
 -- the judging that was found
+abbrev pub judge_wanted_with : List Row → ℕ → Option Wanted
+judge_wanted_with rows least = option_and_then (judge_wanted_by rows least) (skew_found rows)
+
 abbrev pub judge_wanted : List Row → Option Wanted
-judge_wanted rows = option_and_then (judge_wanted_of rows) (least_found rows)
+judge_wanted rows = option_and_then (judge_wanted_with rows) (least_found rows)
 
 -- the showing that was found
 abbrev pub show_wanted : List Row → Option Wanted

@@ -1,18 +1,21 @@
 // What was found for the arguments of a subcommand that reads a file.
-ghost use Rattle.std.specs.Prelude.{◌≡◌, IfOk, IfErr, IsSome, Some, codes, option_map, string_bytes};
+ghost use Rattle.std.specs.Prelude.{◌≡◌, IfOk, IfErr, IsSome, Some, codes, is_some, option_map, string_bytes};
 ghost use Rattle.clap.specs.Words.{first_of, found_of, rows_of};
-ghost use Rattle.command_line.specs.CommandLine.{calls_in, check_wanted, is_on, judge_wanted, judge_wanted_of, least_found, show_wanted, wanted_of, IsUsage};
+ghost use Rattle.command_line.specs.CommandLine.{check_wanted, is_on, judge_wanted, judge_wanted_by, judge_wanted_of, judge_wanted_with, number_found_to, number_to, show_wanted, wanted_of, IsUsage};
 
 use crate::line::Line;
 use crate::line_fault::LineFault;
-use crate::telling::{no_calls, no_file};
+use crate::telling::{no_file, no_number_to, not_with_trace};
 use clap::ArgMatches;
-use judge_run::{CheckRequest, JudgeRequest, ShowRequest};
+use judge_run::{CheckRequest, JudgeRequest, Scope, ShowRequest};
 use std::alloc::{AllocError, Global};
 use trace_file::FileName;
 
 /// The most calls of a history.
-const MOST_CALLS: u32 = 268435456;
+const MOST_CALLS: u64 = 268435456;
+
+/// The most by which a stamp may differ from the truth: the greatest stamp of a text.
+const MOST_SKEW: u64 = 9223372036854775807;
 
 /// The text that was found for an option, to be repeated; an empty one if none was.
 pub(crate) fn given<'a>(found: &ArgMatches<'a>, option: &str) -> &'a str {
@@ -89,26 +92,22 @@ pub(crate) fn check_line<'a>(alloc: Global, found: &ArgMatches<'a>) -> Result<Li
     }))
 }
 
-/// The number of calls that a text writes; none if it writes none that a history may have.
-fn calls_in(text: &str) -> Option<u32>
-    ensures { result ≡ calls_in text.now }
+/// The number that a text writes; none if it writes none, or a greater one than this.
+fn number_to(text: &str, most: u64) -> Option<u64>
+    ensures { result ≡ number_to most text.now }
 {
-    let Ok(calls) = text.parse::<u32>() else {
+    let Ok(number) = text.parse::<u64>() else {
         return None;
     };
-    if calls <= MOST_CALLS {
-        Some(calls)
-    } else {
-        None
-    }
+    if number <= most { Some(number) } else { None }
 }
 
-/// How many calls an accepted history has to have; none if what was found for that is no number that a history may have.
-fn least_of<'a>(found: &ArgMatches<'a>) -> Option<u32>
-    ensures { result ≡ least_found (rows_of (found_of found.now)) }
+/// The number that was found for an option, 0 if none was; none if that is no number, or a greater one than this.
+fn number_of<'a>(found: &ArgMatches<'a>, option: &str, most: u64) -> Option<u64>
+    ensures { result ≡ number_found_to option.now most (rows_of (found_of found.now)) }
 {
-    match found.get_str("at-least") {
-        Some(text) => calls_in(text),
+    match found.get_str(option) {
+        Some(text) => number_to(text, most),
         None => Some(0),
     }
 }
@@ -120,21 +119,80 @@ pub(crate) fn judge_line<'a>(alloc: Global, found: &ArgMatches<'a>) -> Result<Li
     ensures taken { IsSome (judge_wanted (rows_of (found_of found.now)))
         → IfErr result (λ fault. fault ≡ LineFault.OutOfMemory) }
 {
-    match least_of(found) {
-        Some(least) => match judging_line(alloc, found, least) {
+    match number_of(found, "at-least", MOST_CALLS) {
+        Some(least) => match judge_line_with(alloc, found, least) {
             Ok(line) => Ok(line),
             Err(fault) => Err(fault),
         },
-        None => Err(no_calls(alloc, MOST_CALLS, given(found, "at-least"))),
+        None => Err(no_number_to(alloc, "at-least", MOST_CALLS, given(found, "at-least"))),
     }
 }
 
 /// The same, if an accepted history has to have so many calls.
-fn judging_line<'a>(alloc: Global, found: &ArgMatches<'a>, at_least: u32) -> Result<Line, LineFault>
+fn judge_line_with<'a>(
+    alloc: Global,
+    found: &ArgMatches<'a>,
+    at_least: u64,
+) -> Result<Line, LineFault>
     ensures named { IfOk result (λ line.
-        judge_wanted_of (rows_of (found_of found.now)) at_least ≡ Some (wanted_of line)) }
+        judge_wanted_with (rows_of (found_of found.now)) at_least ≡ Some (wanted_of line)) }
     ensures refused { IfErr result (λ fault. IsUsage fault) }
-    ensures taken { IsSome (judge_wanted_of (rows_of (found_of found.now)) at_least)
+    ensures taken { IsSome (judge_wanted_with (rows_of (found_of found.now)) at_least)
+        → IfErr result (λ fault. fault ≡ LineFault.OutOfMemory) }
+{
+    match number_of(found, "skew", MOST_SKEW) {
+        Some(skew) => match judge_line_by(alloc, found, at_least, skew) {
+            Ok(line) => Ok(line),
+            Err(fault) => Err(fault),
+        },
+        None => Err(no_number_to(alloc, "skew", MOST_SKEW, given(found, "skew"))),
+    }
+}
+
+/// The same, if each stamp may differ from the truth by so much. Then no trace is written, since its calls would be wider than those
+/// that were recorded.
+fn judge_line_by<'a>(
+    alloc: Global,
+    found: &ArgMatches<'a>,
+    at_least: u64,
+    skew: u64,
+) -> Result<Line, LineFault>
+    ensures named { IfOk result (λ line.
+        judge_wanted_by (rows_of (found_of found.now)) at_least skew ≡ Some (wanted_of line)) }
+    ensures refused { IfErr result (λ fault. IsUsage fault) }
+    ensures taken { IsSome (judge_wanted_by (rows_of (found_of found.now)) at_least skew)
+        → IfErr result (λ fault. fault ≡ LineFault.OutOfMemory) }
+{
+    if has_trace(found) && skew > 0 {
+        return Err(not_with_trace(alloc));
+    }
+    match judging_line(alloc, found, at_least, skew) {
+        Ok(line) => Ok(line),
+        Err(fault) => Err(fault),
+    }
+}
+
+/// Whether a file for the trace is named.
+fn has_trace<'a>(found: &ArgMatches<'a>) -> bool
+    ensures { result ≡ is_some (first_of (codes "trace") (rows_of (found_of found.now))) }
+{
+    match found.get_str("trace") {
+        Some(_) => true,
+        None => false,
+    }
+}
+
+/// The same, if the options may stand together.
+fn judging_line<'a>(
+    alloc: Global,
+    found: &ArgMatches<'a>,
+    at_least: u64,
+    skew: u64,
+) -> Result<Line, LineFault>
+    ensures named { IfOk result (λ line.
+        judge_wanted_of (rows_of (found_of found.now)) at_least skew ≡ Some (wanted_of line)) }
+    ensures refused { IfErr result (λ fault. IsUsage fault) }
+    ensures taken { IsSome (judge_wanted_of (rows_of (found_of found.now)) at_least skew)
         → IfErr result (λ fault. fault ≡ LineFault.OutOfMemory) }
 {
     let Some(file) = found.get_str("FILE") else {
@@ -152,6 +210,7 @@ fn judging_line<'a>(alloc: Global, found: &ArgMatches<'a>, at_least: u32) -> Res
         picture,
         trace,
         at_least,
+        scope: Scope { skew },
     }))
 }
 

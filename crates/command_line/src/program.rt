@@ -1,7 +1,7 @@
 // The program's command line, as `clap` reads it.
 ghost use Rattle.std.specs.Prelude.{◌≡◌, IfOk, false};
 ghost use Rattle.clap.specs.Words.{app_of, new_app, rule_of};
-ghost use Rattle.command_line.specs.CommandLine.{check_command, device_rule, explain_rule, file_rule, json_rule, judge_command, key_rule, least_rule, option_rule, out_rule, picture_rule, program, run_command, script_command, scripts_program, serve_command, show_command, size_rule, trace_rule, with_history, with_judging, with_loads, zipf_rule};
+ghost use Rattle.command_line.specs.CommandLine.{check_command, device_rule, explain_rule, file_rule, json_rule, judge_command, key_rule, least_rule, option_rule, out_rule, picture_rule, program, run_command, script_command, scripts_program, serve_command, show_command, size_rule, skew_rule, trace_rule, with_history, with_judging, with_loads, zipf_rule};
 
 use crate::help;
 use crate::help::Help;
@@ -91,7 +91,8 @@ pub fn judge<'a>(alloc: Global) -> Result<Command<'a>, AllocError>
     let judge = command(alloc, "judge", &help::JUDGE);
     let judge = with_history(alloc, judge, "File of the text, or - for standard input")?;
     let traced = judge.arg(out(alloc))?;
-    traced.arg(at_least(alloc))
+    let counted = traced.arg(at_least(alloc))?;
+    counted.arg(skew(alloc))
 }
 
 /// A command that judges the history in a file, which means this.
@@ -179,6 +180,19 @@ fn at_least<'a>(alloc: Global) -> Arg<'a>
         .value_name("NUMBER")
         .help(
             "End with status 2 if an accepted history has fewer calls than this, 0 to\n268435456. [default: 0]",
+        )
+}
+
+/// By how much each stamp may differ from the truth.
+fn skew<'a>(alloc: Global) -> Arg<'a>
+    ensures rule { rule_of result ≡ skew_rule }
+    ensures local { result.global ≡ false }
+{
+    Arg::new(alloc, "skew")
+        .long("skew")
+        .value_name("NUMBER")
+        .help(
+            "Judge as if each time might be wrong by so much, in the unit of the\ninput's times, 0 to 9223372036854775807. [default: 0]",
         )
 }
 

@@ -100,17 +100,36 @@ pub fn no_bytes(alloc: Global, size: SizeSetting, given: &str) -> LineFault
     no_range(alloc, Loading::Serve, &range, given)
 }
 
-/// What is reported if the text that was given for `--at-least` is no number of calls that a history may have.
-pub fn no_calls(alloc: Global, most: u32, given: &str) -> LineFault
+/// What is reported if the text that was given for this option of `judge` is no number, or a greater one than this.
+pub fn no_number_to(alloc: Global, option: &'static str, most: u64, given: &str) -> LineFault
     ensures { IsUsage result }
 {
     let range = Range {
-        name: "at-least",
+        name: option,
         least: 0,
-        greatest: u64::from(most),
+        greatest: most,
         units: "",
     };
     no_range(alloc, Loading::Judge, &range, given)
+}
+
+/// What is reported if a trace is to be written of calls whose stamps may differ from the truth.
+pub fn not_with_trace(alloc: Global) -> LineFault
+    ensures { IsUsage result }
+{
+    match trace_error(alloc) {
+        Ok(error) => usage_of(alloc, &error),
+        Err(_) => LineFault::OutOfMemory,
+    }
+}
+
+/// The same, as `clap` words it.
+fn trace_error(alloc: Global) -> Result<clap::Error, AllocError> {
+    let mut command = judge(alloc)?.bin_name("kangaroo judge")?;
+    command.error(
+        ErrorKind::ArgumentConflict,
+        "--trace can't be given with --skew, since it would hold calls with other times: leave --trace or --skew out",
+    )
 }
 
 /// What is reported if this setting is given with a size, which determines it.

@@ -1,5 +1,6 @@
 mod RowLaws
 mod RunLaws
+mod ScopeLaws
 mod TraceLines
 mod ShowLaws
 mod FoundLaws

@@ -5,6 +5,7 @@ pub mod TraceRows
 pub mod TraceTold
 pub mod Showing
 pub mod Inputs
+pub mod Scopes
 pub mod Kinds
 pub mod Ends
 pub mod Runs

@@ -14,9 +14,10 @@ use Rattle.history_picture.specs.Names.{names_of}
 use Rattle.history_picture.specs.Reasons.{reason_of}
 use Rattle.history_text.specs.declared.bad_line.BadLine as bad_lines
 use Rattle.history_text.specs.Causes.{bad_line_text, cause_text}
-use Rattle.history_text.specs.Text.{Text, text_by, text_of}
+use Rattle.history_text.specs.Text.{Text, text_by}
 use Rattle.judge_run.specs.FoundRows.{calls_row, found_rows, undecided_rows, verdict_row}
 use Rattle.judge_run.specs.Kinds.{kind_rows}
+use Rattle.judge_run.specs.Scopes.{judged_of}
 use Rattle.judge_run.specs.Telling.{verdict_text}
 use Rattle.trace_file.specs.declared.call.Call.{Call}
 use Rattle.trace_file.specs.declared.trace.Trace.{Trace}
@@ -24,6 +25,7 @@ use Rattle.trace_file.specs.Sending.{Begun}
 use Rattle.judge_run.specs.declared.outcome.Outcome.{Outcome}
 use Rattle.judge_run.specs.declared.outcome.Outcome.TheVariants.{Accepted, Rejected, Undecided, BadLine, BadTrace}
 use Rattle.judge_run.specs.declared.rejection.Rejection.{Rejection}
+use Rattle.judge_run.specs.declared.scope.Scope.{Scope}
 use Rattle.judge_run.specs.declared.tell_fault.TellFault.{TellFault}
 use Rattle.judge_run.specs.declared.tell_fault.TellFault.TheVariants.{OutOfMemory, ReadFault, WriteFault}
 use Rattle.judge_run.specs.Answers.{answered, begun}
@@ -95,40 +97,40 @@ IsHistoryTold form text explain (Undecided hits) told = UndecidedTold form text 
 IsHistoryTold form text explain (BadLine bad) told = ⊥
 IsHistoryTold form text explain (BadTrace fault) told = ⊥
 
--- the bytes, if they are known, spell a history with this report
-pub record SpelledTold (form : Form) (known : Option (List ℕ)) (explain : Bool) (outcome : Outcome) (told : List ℕ) : Type 0 where
+-- the bytes, if they are known, spell a history with this report, as it is judged in this scope
+pub record SpelledTold (form : Form) (scope : Scope) (known : Option (List ℕ)) (explain : Bool) (outcome : Outcome) (told : List ℕ) : Type 0 where
   pub text : Text
-  pub read : IfSome known (λ bytes. text_of bytes ≡ Ok text)
+  pub read : IfSome known (λ bytes. judged_of scope bytes ≡ Ok text)
   pub is : IsHistoryTold form text explain outcome told
 
 -- the bytes, if they are known, have this first bad line, which is reported
-pub record BadTold (form : Form) (known : Option (List ℕ)) (bad : bad_lines.BadLine) (told : List ℕ) : Type 0 where
-  pub read : IfSome known (λ bytes. text_of bytes ≡ Err bad)
+pub record BadTold (form : Form) (scope : Scope) (known : Option (List ℕ)) (bad : bad_lines.BadLine) (told : List ℕ) : Type 0 where
+  pub read : IfSome known (λ bytes. judged_of scope bytes ≡ Err bad)
   pub told_is : told ≡ bad_answer form bad
 
 -- the report on the bytes of a text, by the outcome of judging them
-abbrev pub IsTextTold : Form → Option (List ℕ) → Bool → Outcome → List ℕ → Type 0
-IsTextTold form known explain (Accepted trace) told = SpelledTold form known explain (Accepted trace) told
-IsTextTold form known explain (Rejected rejection) told = SpelledTold form known explain (Rejected rejection) told
-IsTextTold form known explain (Undecided hits) told = SpelledTold form known explain (Undecided hits) told
-IsTextTold form known explain (BadLine bad) told = BadTold form known bad told
-IsTextTold form known explain (BadTrace fault) told = ⊥
+abbrev pub IsTextTold : Form → Scope → Option (List ℕ) → Bool → Outcome → List ℕ → Type 0
+IsTextTold form scope known explain (Accepted trace) told = SpelledTold form scope known explain (Accepted trace) told
+IsTextTold form scope known explain (Rejected rejection) told = SpelledTold form scope known explain (Rejected rejection) told
+IsTextTold form scope known explain (Undecided hits) told = SpelledTold form scope known explain (Undecided hits) told
+IsTextTold form scope known explain (BadLine bad) told = BadTold form scope known bad told
+IsTextTold form scope known explain (BadTrace fault) told = ⊥
 
 -- the report on a text was written, and nothing else
-pub record ToldText (form : Form) (known : Option (List ℕ)) (explain : Bool) (outcome : Outcome) (old new : Option (List ℕ)) : Type 0 where
+pub record ToldText (form : Form) (scope : Scope) (known : Option (List ℕ)) (explain : Bool) (outcome : Outcome) (old new : Option (List ℕ)) : Type 0 where
   pub told : List ℕ
-  pub is : IsTextTold form known explain outcome told
+  pub is : IsTextTold form scope known explain outcome told
   pub wrote : Appends old new told
 
 -- of the report on a text a front was written, and not all of it
-pub record BeganText (form : Form) (known : Option (List ℕ)) (explain : Bool) (old new : Option (List ℕ)) : Type 0 where
+pub record BeganText (form : Form) (scope : Scope) (known : Option (List ℕ)) (explain : Bool) (old new : Option (List ℕ)) : Type 0 where
   pub outcome : Outcome
   pub told : List ℕ
-  pub is : IsTextTold form known explain outcome told
+  pub is : IsTextTold form scope known explain outcome told
   pub began : Begun old new told
 
 -- if a text was not reported, or not whole, nothing was written, or a front
-abbrev pub IsTextUntold : Form → Option (List ℕ) → Bool → Option (List ℕ) → Option (List ℕ) → TellFault → Type 0
-IsTextUntold form known explain old new OutOfMemory = Keeps old new
-IsTextUntold form known explain old new ReadFault = Keeps old new
-IsTextUntold form known explain old new WriteFault = BeganText form known explain old new
+abbrev pub IsTextUntold : Form → Scope → Option (List ℕ) → Bool → Option (List ℕ) → Option (List ℕ) → TellFault → Type 0
+IsTextUntold form scope known explain old new OutOfMemory = Keeps old new
+IsTextUntold form scope known explain old new ReadFault = Keeps old new
+IsTextUntold form scope known explain old new WriteFault = BeganText form scope known explain old new

@@ -2,27 +2,31 @@
 ghost use Rattle.std.specs.Prelude.{◌≡◌, ◌≢◌, Ok, IfOk, IfErr, IfSome, OnOk, length};
 ghost use Rattle.std.specs.Io.KnownBytes.{IsAtEnd};
 ghost use Rattle.history_text.specs.Outcome.{IsFaultOf, Left};
-ghost use Rattle.history_text.specs.Text.{text_by, text_of};
+ghost use Rattle.history_text.specs.Text.{text_by};
+ghost use Rattle.judge_run.specs.Scopes.{judged_of};
 ghost use Rattle.certificate_finder.specs.Finding.{IsFound};
 
 use crate::judged_text::JudgedText;
+use crate::scope::Scope;
+use crate::scoping::scoped;
 use certificate_finder::find_with_hasher;
 use history_text::{ReadTextFault, read_text};
 use std::alloc::Global;
 use std::hash::BuildHasher;
 use std::io::Read;
 
-/// Reads the history that a text spells, and looks for a certificate with which it is accepted.
+/// Reads the history that a text spells, and looks for a certificate with which it is accepted as it is judged in this scope.
 ///
 /// A bad line, a failed read and refused memory are faults: see `read_text`. The tables of callers, keys and values hash by
 /// `hash_builder`: whoever wrote the text should not know its seed.
 pub fn judge_text<S: BuildHasher + Copy + Drop, R: Read>(
     alloc: Global,
     hash_builder: S,
+    scope: Scope,
     reader: &mut R,
 ) -> Result<JudgedText<S>, ReadTextFault>
     ensures text { IfOk result (λ judged. IfSome (R.remaining reader.old) (λ bytes.
-        text_of bytes
+        judged_of scope bytes
         ≡ Ok (text_by judged.text.history judged.text.lines.items judged.text.callers))) }
     ensures found { IfOk result (λ judged. IsFound judged.text.history judged.found) }
     ensures as_many { IfOk result (λ judged.
@@ -36,6 +40,9 @@ pub fn judge_text<S: BuildHasher + Copy + Drop, R: Read>(
     let text = match read_text(alloc, hash_builder, reader) {
         Ok(text) => text,
         Err(fault) => return Err(fault),
+    };
+    let Ok(text) = scoped(alloc, text, scope) else {
+        return Err(ReadTextFault::OutOfMemory);
     };
     match find_with_hasher(alloc, hash_builder, &text.history) {
         Ok(found) => Ok(JudgedText { text, found }),

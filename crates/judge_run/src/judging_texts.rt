@@ -12,6 +12,7 @@ use crate::judging_text::judge_text;
 use crate::names::copy_names;
 use crate::outcome::Outcome;
 use crate::rejection::Rejection;
+use crate::scope::Scope;
 use crate::tell_fault::TellFault;
 use crate::text_answers::{bad_answer, found_begun};
 use certificate_finder::{Found, Witness};
@@ -23,7 +24,7 @@ use std::hash::BuildHasher;
 use std::io::{Read, Write};
 use trace_file::{Trace, Unwritten, write_whole};
 
-/// Judges the history that a text spells, and tells its verdict in this form. If the history is rejected and that is wanted, it
+/// Judges the history that a text spells in this scope, and tells its verdict in this form. If the history is rejected and that is wanted, it
 /// tells why after the verdict. It flushes nothing. The tables hash by `hash_builder`. Whoever wrote the text should not know its seed.
 ///
 /// Neither a failed read nor a failed write is tried again. If memory or the reader is the fault, nothing was written.
@@ -31,16 +32,17 @@ pub fn answer_judge<S: BuildHasher + Copy + Drop, R: Read, W: Write>(
     alloc: Global,
     hash_builder: S,
     form: Form,
+    scope: Scope,
     explain: bool,
     reader: &mut R,
     writer: &mut W,
 ) -> Result<Outcome, TellFault>
-    ensures ok { IfOk result (λ outcome. ToldText form (R.remaining reader.old) explain outcome
+    ensures ok { IfOk result (λ outcome. ToldText form scope (R.remaining reader.old) explain outcome
         (W.contents writer.old) (W.contents writer.new)) }
-    ensures err { IfErr result (λ fault. IsTextUntold form (R.remaining reader.old) explain
+    ensures err { IfErr result (λ fault. IsTextUntold form scope (R.remaining reader.old) explain
         (W.contents writer.old) (W.contents writer.new) fault) }
 {
-    let told = match told_text(alloc, hash_builder, form, explain, reader) {
+    let told = match told_text(alloc, hash_builder, form, scope, explain, reader) {
         Ok(told) => told,
         Err(fault) => return Err(fault),
     };
@@ -55,14 +57,15 @@ fn told_text<S: BuildHasher + Copy + Drop, R: Read>(
     alloc: Global,
     hash_builder: S,
     form: Form,
+    scope: Scope,
     explain: bool,
     reader: &mut R,
 ) -> Result<JudgeReport, TellFault>
     ensures ok { IfOk result (λ told.
-        IsTextTold form (R.remaining reader.old) explain told.outcome (string_bytes told.text)) }
+        IsTextTold form scope (R.remaining reader.old) explain told.outcome (string_bytes told.text)) }
     ensures err { IfErr result (λ fault. fault ≢ TellFault.WriteFault) }
 {
-    match judge_text(alloc, hash_builder, reader) {
+    match judge_text(alloc, hash_builder, scope, reader) {
         Ok(judged) => match told_judged(alloc, form, judged, explain) {
             Ok(told) => Ok(told),
             Err(AllocError) => Err(TellFault::OutOfMemory),

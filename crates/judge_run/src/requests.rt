@@ -1,4 +1,5 @@
 // What `judge`, `check` and `show` are asked to do: their three requests.
+use crate::scope::Scope;
 use trace_file::FileName;
 
 /// The history that is to be judged, and what is wanted beside its verdict.
@@ -15,7 +16,9 @@ pub struct JudgeRequest {
     /// The file that an accepted history is written to, as a trace with the certificate that was found.
     pub trace: Option<FileName>,
     /// How many calls an accepted history has to have.
-    pub at_least: u32,
+    pub at_least: u64,
+    /// What of the calls is judged. What is drawn and what is written as a trace are the calls as they are judged.
+    pub scope: Scope,
 }
 
 /// The trace that is to be judged, and what is wanted beside its verdict.

@@ -38,8 +38,8 @@ pub fn run_judge<R: AllocGlobal + Files + Input + RandomSource, O: Write, E: Wri
     out: &mut O,
     err: &mut E,
 ) -> u8
-    ensures { IsJudgeRun (form_of request.now.json) request.now.explain request.now.at_least
-        (O.contents out.old) (O.contents out.new) result }
+    ensures { IsJudgeRun (form_of request.now.json) request.now.scope request.now.explain
+        request.now.at_least (O.contents out.old) (O.contents out.new) result }
 {
     judge_with(rt, &mut rt.reader(), request, out, err)
 }
@@ -52,10 +52,10 @@ pub fn judge_with<R: AllocGlobal + Files + RandomSource, I: Read, O: Write, E: W
     out: &mut O,
     err: &mut E,
 ) -> u8
-    ensures judged { IsJudgeRun (form_of request.now.json) request.now.explain
+    ensures judged { IsJudgeRun (form_of request.now.json) request.now.scope request.now.explain
         request.now.at_least (O.contents out.old) (O.contents out.new) result }
     ensures standard_input { IsStandardInput request.now.file → IsJudgeRunOn
-        (form_of request.now.json) (I.remaining stdin.old) request.now.explain
+        (form_of request.now.json) request.now.scope (I.remaining stdin.old) request.now.explain
         request.now.at_least (O.contents out.old) (O.contents out.new) result }
     ensures unread { ¬ IsStandardInput request.now.file → stdin.new ≡ stdin.old }
 {
@@ -81,11 +81,19 @@ fn judge_from<R: AllocGlobal + Files, I: Read, O: Write, E: Write>(
     out: &mut O,
     err: &mut E,
 ) -> u8
-    ensures { IsJudgeRunOn (form_of request.now.json) (I.remaining reader.old) request.now.explain
-        request.now.at_least (O.contents out.old) (O.contents out.new) result }
+    ensures { IsJudgeRunOn (form_of request.now.json) request.now.scope (I.remaining reader.old)
+        request.now.explain request.now.at_least (O.contents out.old) (O.contents out.new) result }
 {
     let form = Form::of(request.json);
-    let answer = answer_judge(rt.alloc(), seed, form, request.explain, reader, out);
+    let answer = answer_judge(
+        rt.alloc(),
+        seed,
+        form,
+        request.scope,
+        request.explain,
+        reader,
+        out,
+    );
     let trace = request.trace.as_ref();
     let picture = request.picture.as_ref();
     let least = request.at_least as usize;

@@ -21,6 +21,10 @@ enum Asked {
     Judge,
     /// The same, if an accepted history has to have 1,000 calls.
     JudgeAtLeast,
+    /// The same, if each stamp may differ from the truth by 25.
+    JudgeSkewed,
+    /// That of standard input judged, and written to `b.trace`.
+    JudgeTraced,
     /// That of `a.txt` judged, explained, drawn to `a.svg` and written to `b.trace`.
     JudgeAll,
     /// That of standard input judged and told as JSON.
@@ -71,11 +75,11 @@ fn check_asked(request: &CheckRequest) -> Asked {
 fn judge_asked(request: &JudgeRequest) -> Asked {
     let has_all = is_named(&request.picture, "a.svg") && is_named(&request.trace, "b.trace");
     let has_none = is_named(&request.picture, "") && is_named(&request.trace, "");
-    if request.file.as_str() == "-" && !request.explain && has_none && request.at_least == 1000 {
-        return Asked::JudgeAtLeast;
+    if request.at_least != 0 || request.scope.skew != 0 {
+        return limited_asked(request, has_none);
     }
-    if request.at_least != 0 {
-        return Asked::Other;
+    if is_named(&request.trace, "b.trace") && is_named(&request.picture, "") {
+        return Asked::JudgeTraced;
     }
     if request.file.as_str() == "-" && !request.explain && has_none {
         return if request.json {
@@ -88,6 +92,18 @@ fn judge_asked(request: &JudgeRequest) -> Asked {
         return Asked::JudgeAll;
     }
     Asked::Other
+}
+
+/// What judging with a limit asks for, if nothing else is wanted.
+fn limited_asked(request: &JudgeRequest, is_alone: bool) -> Asked {
+    if request.file.as_str() != "-" || request.explain || !is_alone {
+        return Asked::Other;
+    }
+    match (request.at_least, request.scope.skew) {
+        (1000, 0) => Asked::JudgeAtLeast,
+        (0, 25) => Asked::JudgeSkewed,
+        _ => Asked::Other,
+    }
 }
 
 /// What showing asks for.
@@ -162,6 +178,27 @@ const TOO_MANY: [&str; 4] = ["kangaroo", "judge", "--at-least=268435457", "-"];
 
 /// The same with a word that is no number.
 const NO_NUMBER: [&str; 4] = ["kangaroo", "judge", "--at-least=1K", "-"];
+
+/// The words of `judge` for stamps that may differ from the truth by 25.
+const SKEWED: [&str; 5] = ["kangaroo", "judge", "--skew", "25", "-"];
+
+/// The same with more than a stamp of a text can be.
+const TOO_SKEWED: [&str; 4] = ["kangaroo", "judge", "--skew=9223372036854775808", "-"];
+
+/// A trace of such calls.
+const SKEWED_TRACE: [&str; 5] = ["kangaroo", "judge", "--skew=1", "--trace=b.trace", "-"];
+
+/// A trace of calls with right stamps.
+const WHOLE_TRACE: [&str; 5] = ["kangaroo", "judge", "--skew=0", "--trace=b.trace", "-"];
+
+#[test]
+fn wider_calls_are_asked_for(rt: HostRuntime) {
+    let alloc = rt.alloc();
+    assert!(rt; ask_for(alloc, &SKEWED, Asked::JudgeSkewed));
+    assert!(rt; ask_for(alloc, &TOO_SKEWED, Asked::Usage));
+    assert!(rt; ask_for(alloc, &SKEWED_TRACE, Asked::Usage));
+    assert!(rt; ask_for(alloc, &WHOLE_TRACE, Asked::JudgeTraced));
+}
 
 #[test]
 fn judging_and_showing_are_asked_for(rt: HostRuntime) {

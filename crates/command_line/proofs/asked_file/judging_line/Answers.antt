@@ -7,10 +7,10 @@ use Rattle.command_line.proofs.asked_file.judging_line.Goals as goal
 
 pub returns-in_default-clause-taken : goal.returns-in_default-clause-taken
 returns-in_default-clause-taken c = λ some.
-    absurd (no_judging (rows_of (found_of c.args.found.now)) c.args.at_least (found_text (found_of c.args.found.now) (codes "FILE") (codes "FILE") None refl c.in_default.ensures) some)
+    absurd (no_judging (rows_of (found_of c.args.found.now)) c.args.at_least c.args.skew (found_text (found_of c.args.found.now) (codes "FILE") (codes "FILE") None refl c.in_default.ensures) some)
 
 pub returns-clause-named : goal.returns-clause-named
 returns-clause-named c =
     asks_judging (rows_of (found_of c.args.found.now)) c.in_ok-file.file
     (ap Some c.in_ok-file.ensures ∙ found_text (found_of c.args.found.now) (codes "FILE") (codes "FILE") (Some c.in-Some.file.now) refl c.in-Some.ensures)
-    c.args.at_least c.is_on-explain.result c.is_on-json.result c.in_ok-picture.picture c.in_ok-trace.trace c.is_on-explain.ensures c.is_on-json.ensures c.in_ok-picture.ensures c.in_ok-trace.ensures
+    c.args.at_least c.args.skew c.is_on-explain.result c.is_on-json.result c.in_ok-picture.picture c.in_ok-trace.trace c.is_on-explain.ensures c.is_on-json.ensures c.in_ok-picture.ensures c.in_ok-trace.ensures

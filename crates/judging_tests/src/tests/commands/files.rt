@@ -1,6 +1,6 @@
 // Files and standard input that are read, and files that are written.
 use judge_run::{
-    CheckRequest, JudgeRequest, ShowRequest, check_with, judge_with, run_check, run_judge,
+    CheckRequest, JudgeRequest, Scope, ShowRequest, check_with, judge_with, run_check, run_judge,
     run_show, show_with,
 };
 use std::alloc::{AllocError, Global};
@@ -24,7 +24,9 @@ enum Step {
     /// A standard input of these bytes is judged.
     JudgeInput(&'static [u8], u8),
     /// The same, if an accepted history has to have so many calls.
-    JudgeAtLeast(&'static [u8], u32, u8),
+    JudgeAtLeast(&'static [u8], u64, u8),
+    /// The same, if each stamp may differ from the truth by so much.
+    JudgeSkewed(&'static [u8], u64, u8),
     /// It is checked.
     CheckInput(&'static [u8], u8),
     /// Its calls that are of a key are shown.
@@ -45,7 +47,10 @@ const TRACE: &[u8] =
 const TURNED: &[u8] =
     b"KGTRACE1\0\0\0\x02\x01\0\0\0\0\0\0\0\0\0\x01\0\0\0\0\0\0\0\x04\x01k\0\x01v\x03\0\x01\0\0\0\0\0\0\0\x02\0\0\0\0\0\0\0\x06\x01k\0\x01v\0\0\0\x01\0\0\0\0";
 
-const STEPS: [Step; 37] = [
+/// A hit of `v` starts 5 after the put of `w` has ended, which starts 10 after the put of `v` has ended.
+const STALE: &[u8] = b"a 0 10 put k v\nb 20 30 put k w\nc 35 40 hit k v\n";
+
+const STEPS: [Step; 42] = [
     // what is no file is no trace
     Step::Check("there is no such file", 3),
     Step::Check(".", 2),
@@ -92,6 +97,12 @@ const STEPS: [Step; 37] = [
     Step::JudgeAtLeast(b"", 1, 2),
     Step::JudgeAtLeast(b"a 1 4 hit k w\n", 2, 1),
     Step::Picture,
+    // a hit is stale for clocks that are 4 apart, and right for some that are 6 apart
+    Step::JudgeSkewed(STALE, 0, 1),
+    Step::JudgeSkewed(STALE, 2, 1),
+    Step::Picture,
+    Step::JudgeSkewed(STALE, 3, 0),
+    Step::NoPicture,
     Step::Remove("judged.txt"),
     Step::Remove("judged.trace"),
 ];
@@ -118,6 +129,9 @@ accepted 1 calls
 accepted 1 calls
 accepted 0 calls
 rejected hit key k lines 1
+rejected hit key k lines 1 2 3
+rejected hit key k lines 1 2 3
+accepted 3 calls
 ";
 
 /// What they tell of failures.
@@ -142,6 +156,7 @@ fn judge_of(alloc: Global, file: &str) -> Result<JudgeRequest, AllocError> {
         picture: Some(FileName::new(alloc, "judged.svg")?),
         trace: Some(FileName::new(alloc, "judged.trace")?),
         at_least: 0,
+        scope: Scope::WHOLE,
     })
 }
 
@@ -189,12 +204,25 @@ pub fn judged_input<R: AllocGlobal + Files + RandomSource>(
 fn judged_at_least<R: AllocGlobal + Files + RandomSource>(
     rt: &R,
     mut bytes: &[u8],
-    at_least: u32,
+    at_least: u64,
     out: &mut Vec<u8>,
     err: &mut Vec<u8>,
 ) -> Result<u8, AllocError> {
     let mut request = judge_of(rt.alloc(), "-")?;
     request.at_least = at_least;
+    Ok(judge_with(rt, &mut bytes, &request, out, err))
+}
+
+/// The same, if each stamp may differ from the truth by so much.
+fn judged_skewed<R: AllocGlobal + Files + RandomSource>(
+    rt: &R,
+    mut bytes: &[u8],
+    skew: u64,
+    out: &mut Vec<u8>,
+    err: &mut Vec<u8>,
+) -> Result<u8, AllocError> {
+    let mut request = judge_of(rt.alloc(), "-")?;
+    request.scope = Scope { skew };
     Ok(judge_with(rt, &mut bytes, &request, out, err))
 }
 
@@ -265,6 +293,9 @@ fn is_met<R: AllocGlobal + Files + Input + RandomSource>(
         Step::JudgeInput(bytes, status) => Ok(judged_input(rt, bytes, out, err)? == status),
         Step::JudgeAtLeast(bytes, at_least, status) => {
             Ok(judged_at_least(rt, bytes, at_least, out, err)? == status)
+        }
+        Step::JudgeSkewed(bytes, skew, status) => {
+            Ok(judged_skewed(rt, bytes, skew, out, err)? == status)
         }
         Step::CheckInput(bytes, status) => Ok(checked_input(rt, bytes, out, err)? == status),
         Step::ShowInput(bytes, key, status) => {

@@ -1,6 +1,6 @@
 // Answers as JSON objects.
 use figures::Form;
-use judge_run::{JudgeEnd, Outcome, answer_check, answer_judge};
+use judge_run::{JudgeEnd, Outcome, Scope, answer_check, answer_judge};
 use std::alloc::Global;
 use std::hash::{BuildHasherDefault, FoldHasher};
 use trace_file::write_trace;
@@ -88,7 +88,16 @@ const CASES: [Case; 10] = [
 fn judged(alloc: Global, text: &str, explain: bool, told: &mut Vec<u8>) -> Option<Outcome> {
     let known: BuildHasherDefault<FoldHasher> = BuildHasherDefault::new();
     let mut reader = text.as_bytes();
-    answer_judge(alloc, known, Form::Json, explain, &mut reader, told).ok()
+    answer_judge(
+        alloc,
+        known,
+        Form::Json,
+        Scope::WHOLE,
+        explain,
+        &mut reader,
+        told,
+    )
+    .ok()
 }
 
 /// Whether a case is told as it should be.

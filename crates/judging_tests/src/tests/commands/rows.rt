@@ -5,7 +5,7 @@ ghost use Rattle.judge_run.specs.declared.rejection.Rejection.{Rejection};
 ghost use Rattle.judging_tests.specs.Objects.{IsFaultTold, IsReasonTold, accepted_object};
 
 use figures::Form;
-use judge_run::{Outcome, TellFault, answer_check, answer_judge};
+use judge_run::{Outcome, Scope, TellFault, answer_check, answer_judge};
 use std::alloc::Global;
 use std::hash::BuildHasher;
 use std::io::Read;
@@ -21,7 +21,15 @@ pub fn an_accepted_text_has_its_own_calls<S: BuildHasher + Copy + Drop, R: Read>
     ensures { IfOk result (λ outcome. (trace : Trace) → outcome ≡ Outcome.Accepted trace
         → out.new.items ≡ out.old.items ++ accepted_object trace) }
 {
-    match answer_judge(alloc, hash_builder, Form::Json, explain, reader, out) {
+    match answer_judge(
+        alloc,
+        hash_builder,
+        Form::Json,
+        Scope::WHOLE,
+        explain,
+        reader,
+        out,
+    ) {
         Ok(outcome) => Ok(outcome),
         Err(fault) => Err(fault),
     }
@@ -38,7 +46,15 @@ pub fn a_rejected_text_has_the_lines_of_its_reason<S: BuildHasher + Copy + Drop,
     ensures { IfOk result (λ outcome. (rejection : Rejection) → outcome ≡ Outcome.Rejected rejection
         → IsReasonTold rejection out.old.items out.new.items) }
 {
-    match answer_judge(alloc, hash_builder, Form::Json, false, reader, out) {
+    match answer_judge(
+        alloc,
+        hash_builder,
+        Form::Json,
+        Scope::WHOLE,
+        false,
+        reader,
+        out,
+    ) {
         Ok(outcome) => Ok(outcome),
         Err(fault) => Err(fault),
     }
@@ -71,7 +87,15 @@ pub fn want_of_memory_leaves_the_output<S: BuildHasher + Copy + Drop, R: Read>(
 ) -> Result<Outcome, TellFault>
     ensures { result ≡ Err TellFault.OutOfMemory → out.new.items ≡ out.old.items }
 {
-    match answer_judge(alloc, hash_builder, form, explain, reader, out) {
+    match answer_judge(
+        alloc,
+        hash_builder,
+        form,
+        Scope::WHOLE,
+        explain,
+        reader,
+        out,
+    ) {
         Ok(outcome) => Ok(outcome),
         Err(fault) => Err(fault),
     }

@@ -1,6 +1,6 @@
 // Readers and writers that fail.
 use figures::Form;
-use judge_run::{Outcome, ShowRequest, TellFault, answer_check, answer_judge, show_with};
+use judge_run::{Outcome, Scope, ShowRequest, TellFault, answer_check, answer_judge, show_with};
 use std::alloc::{AllocError, Global};
 use std::hash::{BuildHasherDefault, FoldHasher};
 use std::io;
@@ -49,7 +49,16 @@ fn fault_of_text<R: Read, W: Write>(
     writer: &mut W,
 ) -> Option<TellFault> {
     let known: BuildHasherDefault<FoldHasher> = BuildHasherDefault::new();
-    answer_judge(alloc, known, Form::Lines, true, reader, writer).err()
+    answer_judge(
+        alloc,
+        known,
+        Form::Lines,
+        Scope::WHOLE,
+        true,
+        reader,
+        writer,
+    )
+    .err()
 }
 
 /// Whether a text that is not read is a fault, and nothing is told.

@@ -1,6 +1,6 @@
 // What is reported of histories, of traces, and of what is neither.
 use figures::Form;
-use judge_run::{JudgeEnd, Outcome, Shown, answer_check, answer_judge, answer_show};
+use judge_run::{JudgeEnd, Outcome, Scope, Shown, answer_check, answer_judge, answer_show};
 use std::alloc::Global;
 use std::hash::{BuildHasherDefault, FoldHasher};
 use trace_file::{Trace, TraceFault, write_trace};
@@ -124,7 +124,16 @@ const CASES: [Case; 15] = [
 fn judged(alloc: Global, text: &str, explain: bool, told: &mut Vec<u8>) -> Option<Outcome> {
     let known: BuildHasherDefault<FoldHasher> = BuildHasherDefault::new();
     let mut reader = text.as_bytes();
-    answer_judge(alloc, known, Form::Lines, explain, &mut reader, told).ok()
+    answer_judge(
+        alloc,
+        known,
+        Form::Lines,
+        Scope::WHOLE,
+        explain,
+        &mut reader,
+        told,
+    )
+    .ok()
 }
 
 /// Whether a case is told as it should be.
