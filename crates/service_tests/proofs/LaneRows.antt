@@ -62,14 +62,14 @@ removed_is_not_live law before after key other moment more live =
     none_some (sym gone ∙ now)
 
 -- a hit in memory is live
-pub in_memory : {D : Type 0} (honest : D → Bool) (device : D) (deeds : List Deed) (key found : List ℕ) (moment : ℕ) (seen : AnswerKind) → seen ≡ Hit Memory → IsLiveHit (IsTrue (honest device)) deeds key moment (answer_of seen found) → IsLive deeds key found moment
-in_memory honest device deeds key found moment seen is live = subst (λ s. IsLiveHit (IsTrue (honest device)) deeds key moment (answer_of s found)) is live
+pub in_memory : {D : Type 0} (honest : D → Bool) (device : D) (deeds : List Deed) (key found : List ℕ) (moment : ℕ) (seen : AnswerKind) (told : ℕ) → seen ≡ Hit Memory told → IsLiveHit (IsTrue (honest device)) deeds key moment (answer_of seen found) → IsLive deeds key found moment
+in_memory honest device deeds key found moment seen told is live = subst (λ s. IsLiveHit (IsTrue (honest device)) deeds key moment (answer_of s found)) is live
 
 -- and if all devices are honest each is
-pub in_any : {D : Type 0} (honest : D → Bool) (device : D) (deeds : List Deed) (key found : List ℕ) (moment : ℕ) (seen : AnswerKind) (tier : Tier) → ((d : D) → IsTrue (honest d)) → seen ≡ Hit tier → IsLiveHit (IsTrue (honest device)) deeds key moment (answer_of seen found) → IsLive deeds key found moment
-in_any honest device deeds key found moment seen Memory all is live = in_memory honest device deeds key found moment seen is live
-in_any honest device deeds key found moment seen Log all is live = subst (λ s. IsLiveHit (IsTrue (honest device)) deeds key moment (answer_of s found)) is live (all device)
-in_any honest device deeds key found moment seen Set all is live = subst (λ s. IsLiveHit (IsTrue (honest device)) deeds key moment (answer_of s found)) is live (all device)
+pub in_any : {D : Type 0} (honest : D → Bool) (device : D) (deeds : List Deed) (key found : List ℕ) (moment : ℕ) (seen : AnswerKind) (tier : Tier) (told : ℕ) → ((d : D) → IsTrue (honest d)) → seen ≡ Hit tier told → IsLiveHit (IsTrue (honest device)) deeds key moment (answer_of seen found) → IsLive deeds key found moment
+in_any honest device deeds key found moment seen Memory told all is live = in_memory honest device deeds key found moment seen told is live
+in_any honest device deeds key found moment seen Log told all is live = subst (λ s. IsLiveHit (IsTrue (honest device)) deeds key moment (answer_of s found)) is live (all device)
+in_any honest device deeds key found moment seen Set told all is live = subst (λ s. IsLiveHit (IsTrue (honest device)) deeds key moment (answer_of s found)) is live (all device)
 
 -- a step of upkeep adds no deed
 pub upkept_adds_none : {D : Type 0} (size : ℕ) (honest : D → Bool) (failures : D → ℕ) (held : D → ℕ → Option (List ℕ)) (plan_of : Job → List Choice) (old : Serving D) (did : Upkept) (new : Serving D) → Upkeeps size honest failures held plan_of old did new → new.deeds ≡ old.deeds
@@ -101,8 +101,8 @@ lease_ended slots after key writes some leased written holds =
 -- ---- counters and upkeep
 
 -- the counters after a hit in a tier
-pub counted_hit : {D : Type 0} (old new : Serving D) (found : List ℕ) (seen : AnswerKind) (tier : Tier) → seen ≡ Hit tier → new.counts ≡ counts_answer (answer_of seen found) old.counts → new.counts ≡ counts_answer (answer_of (Hit tier) found) old.counts
-counted_hit old new found seen tier is counts = subst (λ s. new.counts ≡ counts_answer (answer_of s found) old.counts) is counts
+pub counted_hit : {D : Type 0} (old new : Serving D) (found : List ℕ) (seen : AnswerKind) (tier : Tier) (told : ℕ) → seen ≡ Hit tier told → new.counts ≡ counts_answer (answer_of seen found) old.counts → new.counts ≡ counts_answer (answer_of (Hit tier told) found) old.counts
+counted_hit old new found seen tier told is counts = subst (λ s. new.counts ≡ counts_answer (answer_of s found) old.counts) is counts
 
 -- a step that flushes has done a page
 pub page_done : {D : Type 0} (size : ℕ) (honest : D → Bool) (failures : D → ℕ) (held : D → ℕ → Option (List ℕ)) (plan_of : Job → List Choice) (old : Serving D) (did : Upkept) (new : Serving D) (answer : Flushed) → did ≡ upkept.Flushed answer → Upkeeps size honest failures held plan_of old did new → IsPageDone answer

@@ -1,5 +1,5 @@
 //! What users of a lane rely on, of any lane and any device.
-ghost use Rattle.std.specs.Prelude.{◌≡◌, ◌≢◌, ◌+◌, ◌%◌, ◌^◌, false, Ok, IfOk, IsTrue, Some};
+ghost use Rattle.std.specs.Prelude.{◌≡◌, ◌≢◌, ◌+◌, ◌%◌, ◌^◌, ℕ, false, Ok, IfOk, IsTrue, Some};
 ghost use Rattle.record_pages.specs.Expiry.{is_live};
 ghost use Rattle.record_pages.specs.declared.tier.Tier.{Tier};
 ghost use Rattle.record_pages.specs.declared.tier.Tier.TheVariants.{Memory, Log, Set};
@@ -30,9 +30,9 @@ pub fn a_hit_is_what_was_put<D: PageDevice<PAGE>, const PAGE: usize>(
     found: &mut ValueBuffer,
 ) -> Result<AnswerKind, PutFault>
     requires { name.now ≡ key }
-    ensures memory { result ≡ Ok (Hit Memory) → found.new ≡ value }
+    ensures memory { (told : ℕ) → result ≡ Ok (Hit Memory told) → found.new ≡ value }
     ensures flash { ((d : D) → IsTrue (D.honest d)) → (tier : Tier) →
-        result ≡ Ok (Hit tier) → found.new ≡ value }
+        (told : ℕ) → result ≡ Ok (Hit tier told) → found.new ≡ value }
 {
     latest_is_current();
     let _pushed = lane.put(key, value, 0, expires)?;
@@ -56,8 +56,9 @@ pub fn an_expired_value_is_not_hit<D: PageDevice<PAGE>, const PAGE: usize>(
 ) -> Result<AnswerKind, PutFault>
     requires name { name.now ≡ key }
     requires expired { is_live expires moment ≡ false }
-    ensures memory { result ≢ Ok (Hit Memory) }
-    ensures flash { ((d : D) → IsTrue (D.honest d)) → (tier : Tier) → result ≢ Ok (Hit tier) }
+    ensures memory { (told : ℕ) → result ≢ Ok (Hit Memory told) }
+    ensures flash { ((d : D) → IsTrue (D.honest d)) → (tier : Tier) → (told : ℕ) →
+        result ≢ Ok (Hit tier told) }
 {
     latest_is_current();
     let _pushed = lane.put(key, value, 0, expires)?;
@@ -79,8 +80,9 @@ pub fn nothing_older_is_hit<D: PageDevice<PAGE>, const PAGE: usize>(
     found: &mut ValueBuffer,
 ) -> Option<AnswerKind>
     requires { name.now ≡ key }
-    ensures memory { result ≢ Some (Hit Memory) }
-    ensures flash { ((d : D) → IsTrue (D.honest d)) → (tier : Tier) → result ≢ Some (Hit tier) }
+    ensures memory { (told : ℕ) → result ≢ Some (Hit Memory told) }
+    ensures flash { ((d : D) → IsTrue (D.honest d)) → (tier : Tier) → (told : ℕ) →
+        result ≢ Some (Hit tier told) }
 {
     latest_is_current();
     let Err(_) = lane.put_or_remove(key, value, 0, 0) else {
@@ -102,8 +104,9 @@ pub fn a_removed_key_is_not_hit<D: PageDevice<PAGE>, P: EvictionPolicy, const PA
     moment: u64,
     found: &mut ValueBuffer,
 ) -> Result<AnswerKind, KeyFault>
-    ensures memory { result ≢ Ok (Hit Memory) }
-    ensures flash { ((d : D) → IsTrue (D.honest d)) → (tier : Tier) → result ≢ Ok (Hit tier) }
+    ensures memory { (told : ℕ) → result ≢ Ok (Hit Memory told) }
+    ensures flash { ((d : D) → IsTrue (D.honest d)) → (tier : Tier) → (told : ℕ) →
+        result ≢ Ok (Hit tier told) }
 {
     latest_is_current();
     lane.remove(name)?;
@@ -155,13 +158,13 @@ pub fn a_hit_is_counted_in_its_tier<D: PageDevice<PAGE>, const PAGE: usize>(
     moment: u64,
     found: &mut ValueBuffer,
 ) -> Result<AnswerKind, KeyFault>
-    ensures log { result ≡ Ok (Hit Log) → number counter.LogHits lane.new.counts
+    ensures log { (told : ℕ) → result ≡ Ok (Hit Log told) → number counter.LogHits lane.new.counts
         ≡ (number counter.LogHits lane.old.counts + 1) % 2 ^ 64 }
-    ensures log_alone { result ≡ Ok (Hit Log) → number counter.SetHits lane.new.counts
+    ensures log_alone { (told : ℕ) → result ≡ Ok (Hit Log told) → number counter.SetHits lane.new.counts
         ≡ number counter.SetHits lane.old.counts }
-    ensures set { result ≡ Ok (Hit Set) → number counter.SetHits lane.new.counts
+    ensures set { (told : ℕ) → result ≡ Ok (Hit Set told) → number counter.SetHits lane.new.counts
         ≡ (number counter.SetHits lane.old.counts + 1) % 2 ^ 64 }
-    ensures set_alone { result ≡ Ok (Hit Set) → number counter.LogHits lane.new.counts
+    ensures set_alone { (told : ℕ) → result ≡ Ok (Hit Set told) → number counter.LogHits lane.new.counts
         ≡ number counter.LogHits lane.old.counts }
 {
     match lane.get(name, moment, found) {
