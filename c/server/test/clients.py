@@ -82,9 +82,9 @@ def too_many():
 
 @shows("with idle_timeout a silent client is closed, and one that asks is not")
 def idle():
-    with server("-o", "idle_timeout=1") as it:
+    with server("-o", "idle_timeout=3") as it:
         silent, busy = it.client(), it.client()
-        for _ in range(35):
+        for _ in range(60):
             busy.ask(b"mn\r\n", b"MN\r\n")
             time.sleep(0.1)
         expect(silent.is_closed(), "the silent one is closed")
