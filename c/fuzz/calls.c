@@ -1,11 +1,8 @@
 /* calls: a sequence of calls on a small cache, decoded from the input, beside a model: what each key's latest value is, and
  * which leases hold. A hit is the latest value and live; a fill is stored only if its lease holds. */
-#include "fuzz.h"
-#include <dirent.h>
-#include <fcntl.h>
-#include <unistd.h>
+#include "folder.h"
 
-enum { KEYS = 24, LEASES = 6, CALLS_MOST = 4000, PATH_BYTES = 256, GUARD = 0x5a };
+enum { KEYS = 24, LEASES = 6, CALLS_MOST = 4000, GUARD = 0x5a };
 
 /* What the model knows of a key: the latest value, of which all bytes follow from its number. */
 typedef struct known {
@@ -31,25 +28,7 @@ typedef struct model {
     uint32_t next_number;
 } model;
 
-/* ------------------------------------------------------------------------------------------- folder, keys and values */
-
-static char folder[PATH_BYTES];
-
-static void remove_folder(void) {
-    DIR *list = opendir(folder);
-    struct dirent *entry;
-    while (list != NULL && (entry = readdir(list)) != NULL) unlinkat(dirfd(list), entry->d_name, 0);
-    if (list != NULL) closedir(list);
-    rmdir(folder);
-}
-
-static void make_folder(void) {
-    const char *at = getenv("TMPDIR");
-    if (folder[0] != 0) return;
-    snprintf(folder, sizeof folder, "%s/kangaroo-fuzz-XXXXXX", at != NULL && at[0] != 0 ? at : "/dev/shm");
-    expect(mkdtemp(folder) != NULL, "a folder");
-    atexit(remove_folder);
-}
+/* ------------------------------------------------------------------------------------------- keys and values */
 
 /* The bytes of a key: their number differs by key, and some keys begin alike. */
 static size_t spell_key(uint32_t key, uint8_t to[KANGAROO_KEY_MAX]) {

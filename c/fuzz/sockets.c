@@ -2,33 +2,18 @@
  * go, is decoded from the input. A client that has sent all it sends is answered and closed, and no connection is left. */
 #define _GNU_SOURCE
 #include "server/server.h"
-#include "fuzz.h"
-#include <dirent.h>
-#include <fcntl.h>
+#include "folder.h"
 #include <poll.h>
 #include <sys/socket.h>
-#include <unistd.h>
 
-enum { CLIENTS = 4, PATH_BYTES = 256, WAIT_MS = 20000, READ_AT_ONCE = 4096 };
+enum { CLIENTS = 4, WAIT_MS = 20000, READ_AT_ONCE = 4096 };
 
 static server served;
-static char folder[PATH_BYTES];
-
-static void remove_folder(void) {
-    DIR *list = opendir(folder);
-    struct dirent *entry;
-    while (list != NULL && (entry = readdir(list)) != NULL) unlinkat(dirfd(list), entry->d_name, 0);
-    if (list != NULL) closedir(list);
-    rmdir(folder);
-}
-
 /* One server for all inputs, in a folder of its own. */
 static void start_server(void) {
     static char *words[] = {"kangarood", "-t", "1", "-m", "4", "--flash", "1M", "--sparse", "--folder", folder, NULL};
     if (served.cache != NULL) return;
-    snprintf(folder, sizeof folder, "%s/kangarood-fuzz-XXXXXX", getenv("TMPDIR") != NULL ? getenv("TMPDIR") : "/dev/shm");
-    expect(mkdtemp(folder) != NULL, "a folder");
-    atexit(remove_folder);
+    make_folder();
     read_words((int)(sizeof words / sizeof *words) - 1, words, &served.settings);
     options_of_cache(&served.settings, &served.options);
     start_numbers(&served.numbers);
