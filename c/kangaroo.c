@@ -328,14 +328,17 @@ static kl_counters count_held(kangaroo_cache *cache, uint32_t number, answer_cou
     return counted;
 }
 
-/* The counters of a cache begin with those of a lane, in the same order (layout.c, names.c). The others are counted
- * here. */
+/* The counters of a cache begin with those of a lane, in the same order, all but two (layout.c, names.c). The others are
+ * counted here. */
 static void add_lane(kangaroo_cache *cache, uint32_t number, kangaroo_counters *to) {
     answer_counts answers;
-    kl_counters sums, counted = count_held(cache, number, &answers);
-    memcpy(&sums, to, sizeof sums);
-    for (size_t i = 0; i < KL_COUNTERS; i++) sums.numbers[i] += counted.numbers[i];
-    memcpy(to, &sums, sizeof sums);
+    uint64_t sums[KL_FIRST_COUNTERS];
+    kl_counters counted = count_held(cache, number, &answers);
+    memcpy(sums, to, sizeof sums);
+    for (size_t i = 0; i < KL_FIRST_COUNTERS; i++) sums[i] += counted.numbers[i];
+    memcpy(to, sums, sizeof sums);
+    to->copy_hits += counted.numbers[KL_FIRST_COUNTERS];
+    to->brought_back += counted.numbers[KL_FIRST_COUNTERS + 1];
     to->short_buffers += answers.short_buffers;
     to->put_too_large += answers.put_too_large;
     to->put_no_memory += answers.put_no_memory;

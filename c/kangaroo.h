@@ -135,7 +135,8 @@ typedef enum kangaroo_status {
     KANGAROO_STATUS_HIGHEST_ = 0x7fffffff
 } kangaroo_status;
 
-/* Where a value was found. */
+/* Where a value was found. One that an object brought back into memory gave is told as of a set: like that, it is right if
+ * the file gives back what was written. */
 enum { KANGAROO_TIER_NONE = 0, KANGAROO_TIER_MEMORY = 1, KANGAROO_TIER_LOG = 2, KANGAROO_TIER_SET = 3 };
 
 /* An open cache. */
@@ -180,7 +181,9 @@ typedef struct kangaroo_options {
     uint32_t segment_pages;  /* 1 to 64: pages of a segment */
     uint32_t log_objects;    /* 1 to 1,048,576: objects of a lane that its log can hold */
 
-    uint32_t reserved; /* 0 */
+    /* One of so many hits on flash has its object brought back into memory, and half of the objects in memory are such
+     * copies: default 8; 1: each hit; 0: none comes back, and all of memory is for what is new. */
+    uint32_t bring_back;
 } kangaroo_options;
 
 /* A flag: do not reserve the files' blocks at open. A full disk then shows later, as the signal SIGBUS. */
@@ -208,7 +211,7 @@ KANGAROO_API kangaroo_status kangaroo_options_init(kangaroo_options *options, si
  * out". So bytes become a shape. `options` is changed in place; a second call changes nothing. `field` may be NULL.
  * Otherwise *field becomes NULL, or at KANGAROO_WRONG_OPTIONS the name of the faulty field, a static string. Of several
  * faulty fields it is one of the first group in this list:
- *   1. flags, upkeep_threads, reserved, and a newer version's fields (their name is size)
+ *   1. flags, upkeep_threads, and a newer version's fields (their name is size)
  *   2. flash_bytes, object_bytes, threads
  *   3. memory_bytes
  *   4. the shape, lease_slots, threshold, admit
@@ -278,7 +281,8 @@ typedef struct kangaroo_hit {
  *
  * The value is copied into the buffer. At KANGAROO_OK the first hit->length bytes of the buffer are written and no
  * others; at any other status none. A buffer of KANGAROO_VALUE_MAX bytes is always enough. `hit` may be NULL. It is
- * filled at KANGAROO_OK and KANGAROO_SHORT_BUFFER, and is all zeros at any other status. Takes no memory. May block on
+ * filled at KANGAROO_OK and KANGAROO_SHORT_BUFFER, and is all zeros at any other status. Memory is taken only to bring an
+ * object back (bring_back), and where it is refused the object stays on flash. May block on
  * the device: it reads the page of each log entry with the key's set and tag until it finds the key, and at most one
  * page of the sets. Mostly it reads one page or none.
  *   KANGAROO_OK: a hit
@@ -425,6 +429,8 @@ typedef struct kangaroo_counters {
     uint64_t put_too_large, put_no_memory;                      /* puts and fills that were refused */
     uint64_t leases_dropped;
     uint64_t fills_wrong_lease; /* KANGAROO_STALE for no lease, or one of another key or cache */
+    uint64_t copy_hits;         /* of set_hits, those that a copy in memory answered: flash was not read */
+    uint64_t brought_back;      /* objects that came back into memory, as copies */
 } kangaroo_counters;
 
 /* Reads the counters of all lanes, added up: each lane's are of one moment, under its lock; the lanes' are read one

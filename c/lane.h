@@ -57,7 +57,8 @@ typedef struct kl_seed {
 
 /* The shape of a cache, as kangaroo_options has it. */
 typedef struct kl_shape {
-    uint32_t shards, lanes, sets, memory_objects, segments, segment_pages, log_objects, lease_slots, threshold, admit;
+    uint32_t shards, lanes, sets, memory_objects, segments, segment_pages, log_objects, lease_slots, threshold, admit,
+        bring_back;
 } kl_shape;
 
 /* What a user knows of a cache, as kangaroo_options has it. */
@@ -83,8 +84,9 @@ typedef struct kl_step {
     uint32_t asked_device, is_due;
 } kl_step;
 
-/* The numbers of one lane, in the order of the fields of kangaroo_counters up to segments_now. */
-enum { KL_COUNTERS = 31 };
+/* The numbers of one lane, in the order of the fields of kangaroo_counters: those up to segments_now, and then copy_hits
+ * and brought_back. */
+enum { KL_COUNTERS = 33, KL_FIRST_COUNTERS = 31 };
 typedef struct kl_counters {
     uint64_t numbers[KL_COUNTERS];
 } kl_counters;
@@ -97,7 +99,7 @@ typedef struct kl_place {
 /* The place of a key among lanes, 1 at least. */
 void kl_place_of(const kl_seed *seed, uint32_t lanes, const uint8_t *key, size_t key_length, kl_place *to);
 
-/* Writes a shape for what is wanted, except threshold and admit, and answers KL_NO_SIZE_FAULT; or answers another
+/* Writes a shape for what is wanted, except threshold, admit and bring_back, and answers KL_NO_SIZE_FAULT; or answers another
  * kl_size_fault and writes nothing. */
 uint32_t kl_shape_of(const kl_wanted *wanted, kl_shape *to);
 

@@ -7,6 +7,7 @@
 enum {
     OPTIONS_BYTES_1_0 = 80, /* of version 1.0 */
     SIZES_BYTES_1_0 = 56,
+    BRING_BACK = 8, /* docs/BENCHMARKS.md says why */
     THREADS_MAX = 4096
 };
 _Static_assert(sizeof(kangaroo_options) >= OPTIONS_BYTES_1_0, "options only grow");
@@ -31,6 +32,7 @@ kangaroo_status kangaroo_options_init(kangaroo_options *options, size_t size) {
     defaults.object_bytes = 100;
     defaults.upkeep_threads = 1;
     defaults.admit = 65536;
+    defaults.bring_back = BRING_BACK;
     write_struct(options, size, &defaults, sizeof defaults);
     return KANGAROO_OK;
 }
@@ -132,7 +134,6 @@ static kangaroo_status find_shape(const kangaroo_options *options, kl_shape *sha
 static kangaroo_status test_own_fields(const kangaroo_options *options, const char **field) {
     if ((options->flags & ~KANGAROO_SPARSE) != 0) return wrong(field, "flags");
     if (options->upkeep_threads > UPKEEP_THREADS_MAX) return wrong(field, "upkeep_threads");
-    if (options->reserved != 0) return wrong(field, "reserved");
     return KANGAROO_OK;
 }
 
@@ -144,6 +145,7 @@ kangaroo_status resolve_options(kangaroo_options *options, kl_shape *shape, cons
     status = find_shape(options, shape, field);
     if (status != KANGAROO_OK) return status;
     take_fields(options, shape, KL_LEASE_SLOTS, KL_ADMIT);
+    shape->bring_back = options->bring_back;
     uint32_t fault = kl_complete_shape(shape, options->object_bytes);
     if (fault != KL_NO_FIELD) return wrong(field, shape_fields[fault <= KL_ADMIT ? fault : KL_SHARDS].name);
     give_fields(shape, options);

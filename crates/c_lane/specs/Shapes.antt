@@ -126,7 +126,7 @@ pub record HasPartsOf (shape : Shape) (s : LaneShape) : Type 0 where
 abbrev pub wanted_of : WantedSizes → Wanted
 wanted_of w = record { flash_bytes = w.flash_bytes; memory_bytes = w.memory_bytes; object_bytes = w.object_bytes; threads = w.threads }
 
--- the shape of these parts, whose other two numbers are those that stood there
+-- the shape of these parts, whose other numbers are those that stood there
 abbrev pub shape_with : Shape → LaneShape → LaneShape
 shape_with shape old = record old {
   shards = shape.shards;

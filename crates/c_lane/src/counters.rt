@@ -7,10 +7,11 @@ use page_device::DeviceCounts;
 use service_lane::{Counter, Counts};
 
 /// How many numbers of a lane C reads.
-pub const LANE_COUNTERS: usize = 31;
+pub const LANE_COUNTERS: usize = 33;
 
-/// The numbers of a lane that C reads, in the order of the fields of `kangaroo_counters` (c/kangaroo.h) from `memory_hits` to
-/// `segments_now`. Each counts since the lane was opened, modulo 2^64; the last three are of the present.
+/// The numbers of a lane that C reads, in the order of the fields of `kangaroo_counters` (c/kangaroo.h): from `memory_hits` to
+/// `segments_now`, and then `copy_hits` and `brought_back`. Each counts since the lane was opened, modulo 2^64; the three up to
+/// `segments_now` are of the present.
 #[repr(C)]
 #[derive(Clone, Copy, Debug, PartialEq, Eq)]
 pub struct Counters {
@@ -64,6 +65,8 @@ impl Counters {
                 memory_objects as u64,
                 u64::from(usage.live),
                 u64::from(usage.segments - usage.free_segments),
+                counts.of(Counter::CopyHits),
+                counts.of(Counter::BroughtBack),
             ],
         }
     }

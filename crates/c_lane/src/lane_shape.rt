@@ -5,7 +5,7 @@ use crate::shape_field::ShapeField;
 use cache_sizes::{MAX_LEASE_SLOTS, MAX_SHARDS, Shape, lease_slots_of, threshold_of};
 use record_pages::{Config, Field, Layout};
 
-/// The shape of a cache, and the two numbers that say what enters and leaves its log.
+/// The shape of a cache, the two numbers that say what enters and leaves its log, and the one that says what comes back into memory.
 #[repr(C)]
 #[derive(Clone, Copy, Debug, PartialEq, Eq)]
 pub struct LaneShape {
@@ -29,6 +29,8 @@ pub struct LaneShape {
     pub threshold: u32,
     /// How many of 65,536 objects that leave memory enter the log, 0 to 65,536.
     pub admit: u32,
+    /// One of so many hits on flash has its object brought back into memory; 0 brings none back.
+    pub bring_back: u32,
 }
 
 impl LaneShape {

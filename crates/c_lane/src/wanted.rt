@@ -22,7 +22,7 @@ impl WantedSizes {
     ghost use Rattle.cache_sizes.specs.Faults.{first_size_fault};
     ghost use Rattle.c_lane.specs.Shapes.{wanted_of, IsWrittenFor};
 
-    /// Writes the shape for what is wanted, but `threshold` and `admit`, which stay. The first reason why there is none leaves
+    /// Writes the shape for what is wanted, but `threshold`, `admit` and `bring_back`, which stay. The first reason why there is none leaves
     /// all as it was.
     pub fn write_shape(&self, to: &mut LaneShape) -> Result<(), SizeFault>
         ensures { MatchResult result
@@ -46,6 +46,7 @@ impl WantedSizes {
             lease_slots: shape.lease_slots,
             threshold: to.threshold,
             admit: to.admit,
+            bring_back: to.bring_back,
         };
         Ok(())
     }

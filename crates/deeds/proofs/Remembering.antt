@@ -1,4 +1,4 @@
--- What each call leaves of the pairs in memory, on any device, and that each of them is what its key has.
+-- What each call leaves of the pairs in memory, on any device.
 use Rattle.std.proofs.Common.{◌≡◌, ◌≢◌, ◌⊎◌, ℕ, Bool, true, false, List, Option, Some, None, Result, Ok, Err, refl, ap, ◌∙◌, subst, ⊎_elim, inl, inr, nat_lt, cond, length}
 use Rattle.std.specs.Prelude.{Contains, IfOk, OnErr}
 use Rattle.std.specs.declared.alloc.AllocError.{AllocError}
@@ -9,7 +9,7 @@ use Rattle.record_pages.specs.declared.tier.Tier.TheVariants.{Memory, Log, Set}
 use Rattle.record_pages.specs.declared.pushed.Pushed.{Pushed}
 use Rattle.record_pages.specs.declared.pushed.Pushed.TheVariants.{Declined, Logged, Full, IndexFull}
 use Rattle.memory_cache.specs.declared.pair.Pair.{Pair}
-use Rattle.memory_cache.specs.MemoryList.{MemoryList, after_get, after_put, after_remove, pushed_out, entered, without}
+use Rattle.memory_cache.specs.MemoryList.{MemoryList, after_get, after_put, after_remove, pushed_out}
 use Rattle.admission.specs.declared.judgement.Judgement.{Judgement}
 use Rattle.admission.specs.declared.judgement.Judgement.TheVariants as judgement
 use Rattle.admission.specs.Chance.{is_admitted}
@@ -20,8 +20,6 @@ use Rattle.klog_index.specs.declared.entry.Entry.{Entry}
 use Rattle.record_pages.specs.Recs.{Rec}
 use Rattle.policy_laws.specs.declared.choice.Choice.{Choice}
 use Rattle.policy_laws.specs.declared.job.Job.{Job}
-use Rattle.certificate_checker.specs.Deeds.{Deed}
-use Rattle.certificate_checker.specs.Current.{current}
 use Rattle.mover.specs.Store.{StoreState, most_moves}
 use Rattle.mover.specs.Lane.{LaneState}
 use Rattle.mover.specs.Flight.{most_flights, sets_in_flight}
@@ -42,9 +40,7 @@ use Rattle.mover.specs.declared.committed.Committed.TheVariants as committed
 use Rattle.mover.specs.declared.moved_whole.MovedWhole.{MovedWhole}
 use Rattle.mover.specs.declared.moved_whole.MovedWhole.TheVariants as moved
 use Rattle.mover.proofs.public_laws.Keeping.{all_fronted}
-use Rattle.mover.proofs.public_laws.Listing.{in_take, split}
 use Rattle.mover.proofs.public_laws.Showing.{without_key}
-use Rattle.deeds.specs.Asked.{AreCurrent}
 
 -- ---- moves leave memory as it was
 
@@ -179,19 +175,3 @@ push_stays size admit word (Some out) lane = step (is_admitted admit word)
 pub put_leaves : (size admit word : ℕ) (p : Pair) (pushed : Pushed) (lane new : LaneState) → IsStep (put_step size admit p word lane) pushed new → new.memory ≡ after_put p lane.memory
 put_leaves size admit word p pushed lane new steps =
     ap (λ (l : LaneState). l.memory) steps.1 ∙ push_stays size admit word (pushed_out p lane.memory) (stored p lane)
-
--- ---- each pair in memory is what its key has
-
--- after a put, which gives its key its value and the others what they had
-pub current_put : (before after : List Deed) (put : Pair) (old new : MemoryList) → current after put.key ≡ Some put.value → ((k : List ℕ) → k ≢ put.key → current after k ≡ current before k) → new ≡ after_put put old → AreCurrent before old.pairs → AreCurrent after new.pairs
-current_put before after put old new its others is are p here =
-    let there_in = in_take old.capacity (entered put old.pairs) p (subst (λ (m : MemoryList). Contains m.pairs p) is here) in
-    ⊎_elim (λ first. subst (λ (x : Pair). current after x.key ≡ Some x.value) first its)
-    (λ behind. let kept = without_key put.key old.pairs p behind in others p.key kept.1 ∙ are p kept.0)
-    (split p put (without put.key old.pairs) there_in)
-
--- after a removal, which gives the other keys what they had
-pub current_removed : (before after : List Deed) (key : List ℕ) (old new : MemoryList) → ((k : List ℕ) → k ≢ key → current after k ≡ current before k) → new ≡ after_remove key old → AreCurrent before old.pairs → AreCurrent after new.pairs
-current_removed before after key old new others is are p here =
-    let kept = without_key key old.pairs p (subst (λ (m : MemoryList). Contains m.pairs p) is here) in
-    others p.key kept.1 ∙ are p kept.0

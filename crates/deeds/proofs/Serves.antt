@@ -33,20 +33,9 @@ use Rattle.memory_cache.specs.MemoryList.{after_put, after_remove}
 use Rattle.memory_cache.specs.Laws.{FoundIsHeld}
 use Rattle.mover.specs.Get.{answer_by}
 use Rattle.mover.specs.Calls.{StoreGets}
-use Rattle.deeds.proofs.Remembering.{IsFewer, fewer_got, current_put, current_removed}
+use Rattle.deeds.proofs.Remembering.{IsFewer, fewer_got}
+use Rattle.deeds.proofs.public_laws.Copying.{current_put, current_removed, read_keeps, write_keeps}
 use Rattle.mover.proofs.public_laws.Beginning.{same_lane_held}
-
--- ---- what deeds give
-
--- after a get each key has what it had
-read_keeps : (deeds : List Deed) (key : List ℕ) (moment : ℕ) (answer : Answer) (k : List ℕ) → current (deeds ++ record { key = key; act = act_of moment answer } ∷ []) k ≡ current deeds k
-read_keeps deeds key moment answer k =
-    let d : Deed = record { key = key; act = act_of moment answer } in
-    current-push k deeds d ∙ deed_kept k (current deeds k) d (λ w. reads moment answer w.1)
-
--- after a deed of a key the others have what they had
-write_keeps : (deeds : List Deed) (d : Deed) (k : List ℕ) → k ≢ d.key → current (deeds ++ d ∷ []) k ≡ current deeds k
-write_keeps deeds d k other = current-push k deeds d ∙ deed_kept k (current deeds k) d (λ w. other (sym w.0))
 
 -- ---- hits that are live
 

@@ -1,5 +1,5 @@
 -- What the lock of a lane keeps, when it is new, and what calls do to it.
-use Rattle.std.specs.Prelude.{◌≡◌, ℕ, List, [], Option, Bool, IsTrue}
+use Rattle.std.specs.Prelude.{◌≡◌, ℕ, List, Option, Bool, IsTrue}
 use Rattle.policy_laws.specs.declared.choice.Choice.{Choice}
 use Rattle.policy_laws.specs.declared.job.Job.{Job}
 use Rattle.record_pages.specs.declared.layout.Layout.{Layout}
@@ -8,10 +8,9 @@ use Rattle.key_hash.specs.declared.random_seed.RandomSeed.{RandomSeed}
 use Rattle.key_hash.specs.Hashing.{derived}
 use Rattle.rand_pcg.specs.Lcg.{Lcg}
 use Rattle.page_device.specs.Counting.{CountedDevice, no_device_counts}
-use Rattle.service_lane.specs.Counters.{no_counts}
 use Rattle.service_lane.specs.Counting.{counts_stale, counts_lease}
-use Rattle.service_lane.specs.Leases.{no_writes, writes_for}
-use Rattle.service_lane.specs.Serving.{Serving, Gets, opening_to_serve}
+use Rattle.service_lane.specs.Leases.{writes_for}
+use Rattle.service_lane.specs.Serving.{Serving, Gets, new_serving}
 use Rattle.service_lane.specs.WithHelp.{FillsAndHelps}
 use Rattle.service_lane.specs.declared.filled.Filled.{Filled}
 use Rattle.service_lane.specs.declared.filled.Filled.TheVariants.{Stored, Stale}
@@ -42,14 +41,9 @@ abbrev pub IsAsSaid : {D : Type 0} → (ℕ → Bool) → (D → Bool) → Held 
 IsAsSaid said honest held = IsTrue (said held.lane.register.number) → IsTrue (honest held.lane.serving.store.device.device)
 
 -- a new lane of this number: empty, of this layout, over this device, with this many slots for leases that have seen no write, and
--- sorted by the cache's seed for the number
-abbrev pub new_lane : {D : Type 0} → Layout → ℕ → RandomSeed → ℕ → D → Serving (CountedDevice D)
-new_lane layout lease_slots seed number device = record {
-  store = opening_to_serve layout (record { device = device; counts = no_device_counts });
-  deeds = [];
-  slots = no_writes (derived seed number) lease_slots;
-  counts = no_counts;
-}
+-- sorted by the cache's seed for the number; one in so many hits on flash has its object brought back
+abbrev pub new_lane : {D : Type 0} → Layout → ℕ → ℕ → RandomSeed → ℕ → D → Serving (CountedDevice D)
+new_lane layout lease_slots bring_back seed number device = new_serving layout lease_slots bring_back (derived seed number) (record { device = device; counts = no_device_counts })
 
 -- what comes after an answer to a look-up: at a miss a lease of the key's slot, which is counted; at a hit nothing
 abbrev pub LeasesAfter : {D : Type 0} → LookedUp → List ℕ → Serving D → Serving D → Type 0

@@ -73,7 +73,8 @@ impl<
     /// this policy, and a book with no write. Its refusals are tested in the order of `OpenServiceFault`; devices,
     /// policy and book are dropped with each.
     ///
-    /// The seed decides in which lane a key is, and all else of a lane that is random comes from it. Draw it at random.
+    /// Objects that leave memory stay on flash: `with_layout` can bring them back. The seed decides in which lane a key is, and
+    /// all else of a lane that is random comes from it. Draw it at random.
     pub fn open(
         alloc: Global,
         config: &Config,
@@ -102,6 +103,7 @@ impl<
             &layout,
             shards,
             lease_slots,
+            0,
             devices,
             policy,
             seed,
@@ -112,12 +114,14 @@ impl<
         }
     }
 
-    /// A cache as `open` makes it, of numbers that were checked already.
+    /// A cache as `open` makes it, of numbers that were checked already. In each lane one of `bring_back` hits on flash has its
+    /// object brought back into memory, as `ServiceLane::with_layout` does it; 0 brings none back.
     pub fn with_layout(
         alloc: Global,
         layout: &Layout,
         shards: u32,
         lease_slots: u32,
+        bring_back: u32,
         devices: Vec<D>,
         policy: P,
         seed: RandomSeed,
@@ -151,7 +155,7 @@ impl<
             return Err(OpenServiceFault::DeviceTooSmall);
         }
         let start = book.seat();
-        let Ok(lanes) = lanes_over(alloc, layout, lease_slots, devices, seed, book) else {
+        let Ok(lanes) = lanes_over(alloc, layout, lease_slots, bring_back, devices, seed, book) else {
             return Err(OpenServiceFault::OutOfMemory);
         };
         Ok(ServiceCache {

@@ -27,6 +27,7 @@ pub(crate) fn lanes_over<D: PageDevice<PAGE>, const PAGE: usize, L: KeyLanes, J:
     alloc: Global,
     layout: &Layout,
     lease_slots: u32,
+    bring_back: u32,
     devices: Vec<D>,
     seed: RandomSeed,
     mut book: NamedBook<L, J>,
@@ -47,7 +48,7 @@ pub(crate) fn lanes_over<D: PageDevice<PAGE>, const PAGE: usize, L: KeyLanes, J:
         let Some(device) = devices.pop_front() else {
             unreachable!()
         };
-        let guarded = guarded_over(alloc, layout, lease_slots, device, seed, book.register())?;
+        let guarded = guarded_over(alloc, layout, lease_slots, bring_back, device, seed, book.register())?;
         lanes.push(Mutex::new(CachePadded::new(guarded)))?;
     }
     Ok(lanes)
@@ -59,6 +60,7 @@ fn guarded_over<D: PageDevice<PAGE>, const PAGE: usize, L: KeyLanes, J: BookName
     alloc: Global,
     layout: &Layout,
     lease_slots: u32,
+    bring_back: u32,
     device: D,
     seed: RandomSeed,
     register: Register<L, J>,
@@ -69,14 +71,14 @@ fn guarded_over<D: PageDevice<PAGE>, const PAGE: usize, L: KeyLanes, J: BookName
     requires few { L.lanes < 2 ^ 32 }
     requires honest { IsTrue (L.is_honest register.number) → IsTrue (D.honest device) }
     ensures serving { IfOk result (λ guarded. guarded.lane.serving
-        ≡ new_lane layout.now lease_slots seed register.number device) }
+        ≡ new_lane layout.now lease_slots bring_back seed register.number device) }
     ensures register { IfOk result (λ guarded. guarded.lane.register ≡ register) }
     ensures words { IfOk result (λ guarded. guarded.words ≡ words_for seed register.number) }
 {
     let number = register.number() as u32;
     let counted = CountedPages::new(Boxed::new(alloc, device)?);
     let lane_seed = seed.derive(number);
-    let lane = ServiceLane::with_layout(alloc, layout, lease_slots, counted, lane_seed)?;
+    let lane = ServiceLane::with_layout(alloc, layout, lease_slots, bring_back, counted, lane_seed)?;
     let lane = SeatedLane::new(lane, register);
     Ok(Guarded::new(lane, words_of(seed, number)))
 }

@@ -30,17 +30,19 @@ place_of counter.Declined = 18
 place_of counter.Logged = 19
 place_of counter.LogFull = 20
 place_of counter.IndexFull = 21
-place_of counter.Sealed = 22
-place_of counter.PagesWritten = 23
-place_of counter.PagesLost = 24
-place_of counter.SetsWritten = 25
-place_of counter.SetsForgotten = 26
-place_of counter.SegmentsFreed = 27
-place_of counter.Readmitted = 28
-place_of counter.Dropped = 29
-place_of counter.MovesOutOfMemory = 30
-place_of counter.UpkeepSteps = 31
-place_of counter.StepsInHelp = 32
+place_of counter.CopyHits = 22
+place_of counter.BroughtBack = 23
+place_of counter.Sealed = 24
+place_of counter.PagesWritten = 25
+place_of counter.PagesLost = 26
+place_of counter.SetsWritten = 27
+place_of counter.SetsForgotten = 28
+place_of counter.SegmentsFreed = 29
+place_of counter.Readmitted = 30
+place_of counter.Dropped = 31
+place_of counter.MovesOutOfMemory = 32
+place_of counter.UpkeepSteps = 33
+place_of counter.StepsInHelp = 34
 
 -- the number that stands at a place
 abbrev pub number_at : Counts → ℕ → ℕ

@@ -14,6 +14,8 @@ use Rattle.klog.specs.declared.flushed.Flushed.{Flushed}
 use Rattle.klog.specs.declared.flushed.Flushed.TheVariants as flushed
 use Rattle.mover.specs.declared.moved_whole.MovedWhole.{MovedWhole}
 use Rattle.mover.specs.declared.moved_whole.MovedWhole.TheVariants as moved
+use Rattle.service_lane.specs.declared.copied.Copied.{Copied}
+use Rattle.service_lane.specs.declared.copied.Copied.TheVariants.{Nothing, Answered, Made}
 use Rattle.service_lane.specs.declared.counter.Counter.{Counter}
 use Rattle.service_lane.specs.declared.counter.Counter.TheVariants as counter
 use Rattle.service_lane.specs.declared.counts.Counts.{Counts}
@@ -55,6 +57,12 @@ counter_of_pushed Logged = Some counter.Logged
 counter_of_pushed Full = Some counter.LogFull
 counter_of_pushed IndexFull = Some counter.IndexFull
 
+-- the counter of what a get did with the copies, if it did something
+abbrev pub counter_of_copied : Copied → Option Counter
+counter_of_copied Nothing = None
+counter_of_copied Answered = Some counter.CopyHits
+counter_of_copied Made = Some counter.BroughtBack
+
 -- the counter of a step of flushing, if it did something
 abbrev pub counter_of_flush : Flushed → Option Counter
 counter_of_flush flushed.Sealed = Some counter.Sealed
@@ -81,6 +89,10 @@ bytes_of key value = length key + length value
 -- a lane's counts with one more answer
 abbrev pub counts_answer : Answer → Counts → Counts
 counts_answer answer c = with_one (counter_of_answer answer) c
+
+-- with one more answer, and what it did with the copies
+abbrev pub counts_get : Copied → Answer → Counts → Counts
+counts_get copied answer c = with_one_if (counter_of_copied copied) (counts_answer answer c)
 
 -- with one more put that was stored, its bytes, and what became of the pair that it pushed out
 abbrev pub counts_put : List ℕ → List ℕ → Pushed → Counts → Counts

@@ -2,6 +2,7 @@ pub mod Asked
 pub mod Leases
 pub mod Counters
 pub mod Counting
+pub mod Copies
 pub mod Serving
 pub mod Upkeep
 pub mod WithHelp

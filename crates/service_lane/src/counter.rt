@@ -2,6 +2,7 @@
 ghost use Rattle.std.specs.Prelude.{◌≡◌, ◌<◌, ℕ, List};
 ghost use Rattle.mover.specs.Get.{answer_of};
 
+use crate::copied::Copied;
 use klog::Flushed;
 use mover::{AnswerKind, MovedWhole};
 use record_pages::{MissCause, Pushed, PutFault, Tier};
@@ -53,6 +54,10 @@ pub enum Counter {
     LogFull,
     /// Pairs that were pushed out of memory, and for which the log's index had no place. They are lost.
     IndexFull,
+    /// Hits that a copy in memory answered. They are among the hits in sets.
+    CopyHits,
+    /// Objects on flash that were brought back into memory, as copies.
+    BroughtBack,
     /// Segments that were sealed. Steps of flushing, moves and upkeep change this number or those after it, and no other.
     Sealed,
     /// Pages of the log that were written.
@@ -79,7 +84,7 @@ pub enum Counter {
 
 impl Counter {
     ghost use Rattle.service_lane.specs.Counters.{place_of};
-    ghost use Rattle.service_lane.specs.Counting.{counter_of_answer, counter_of_hit, counter_of_miss, counter_of_refused_put, counter_of_refused_fill, counter_of_pushed, counter_of_flush, counter_of_move};
+    ghost use Rattle.service_lane.specs.Counting.{counter_of_answer, counter_of_hit, counter_of_miss, counter_of_refused_put, counter_of_refused_fill, counter_of_pushed, counter_of_copied, counter_of_flush, counter_of_move};
     ghost use Rattle.service_lane.specs.declared.counts.TheConstants.{COUNTERS};
 
     /// Where its number stands.
@@ -153,6 +158,17 @@ impl Counter {
             Pushed::Logged => Some(Counter::Logged),
             Pushed::Full => Some(Counter::LogFull),
             Pushed::IndexFull => Some(Counter::IndexFull),
+        }
+    }
+
+    /// That of what a get did with the copies, if it did something.
+    pub(crate) fn of_copied(copied: Copied) -> Option<Counter>
+        ensures { result ≡ counter_of_copied copied }
+    {
+        match copied {
+            Copied::Nothing => None,
+            Copied::Answered => Some(Counter::CopyHits),
+            Copied::Made => Some(Counter::BroughtBack),
         }
     }
 

@@ -5,11 +5,11 @@ ghost use Rattle.record_pages.specs.Asked.{HasNumbersOf, layout_pages};
 ghost use Rattle.record_pages.specs.Sizes.{IsPageSize};
 ghost use Rattle.mover.specs.Opening.{CanServe};
 
+use crate::copy_store::CopyStore;
 use crate::counts::Counts;
 use crate::open_lane_fault::OpenLaneFault;
 use crate::slots::Slots;
 use cache_sizes::strikes_of;
-use deeds::DeedStore;
 use key_hash::RandomSeed;
 use klog::LogUsage;
 use mover::{OpenFault, Store};
@@ -30,7 +30,7 @@ mod tend;
 /// see: a hit is its key's latest value in that list not since removed, and live at the moment that the get brought.
 #[derive(Drop)]
 pub struct ServiceLane<D: PageDevice<PAGE>, const PAGE: usize> {
-    asked: DeedStore<D, PAGE>,
+    asked: CopyStore<D, PAGE>,
     slots: Slots,
     counts: Counts,
 }
@@ -48,6 +48,7 @@ impl<D: PageDevice<PAGE>, const PAGE: usize> Model for ServiceLane<D, PAGE> {
     ghost view = { λ l. record {
       store = l.asked.store;
       deeds = l.asked.deeds;
+      copies = l.asked.copies;
       slots = l.slots;
       counts = l.counts;
     } };
@@ -57,9 +58,9 @@ impl<D: PageDevice<PAGE>, const PAGE: usize> Model for ServiceLane<D, PAGE> {
 
 impl<D: PageDevice<PAGE>, const PAGE: usize> ServiceLane<D, PAGE> {
     ghost use Rattle.service_lane.specs.Asked.{IsServed};
-    ghost use Rattle.service_lane.specs.Counters.{no_counts};
-    ghost use Rattle.service_lane.specs.Leases.{AreCounted, no_writes};
-    ghost use Rattle.service_lane.specs.Serving.{opening_to_serve, RefusesLane};
+    ghost use Rattle.service_lane.specs.Leases.{AreCounted};
+    ghost use Rattle.service_lane.specs.Copies.{AreCopies};
+    ghost use Rattle.service_lane.specs.Serving.{asked_of, new_serving, RefusesLane};
 
     /// An empty lane with this many slots for leases, over a device. Its refusals are tested in the order of
     /// `OpenLaneFault`, those of the store in that of `Store::open`, and the device is dropped with each. Its sets have room
@@ -75,12 +76,7 @@ impl<D: PageDevice<PAGE>, const PAGE: usize> ServiceLane<D, PAGE> {
         seed: RandomSeed,
     ) -> Result<Self, OpenLaneFault>
         ensures opening { IfOk result (λ opened. HasNumbersOf opened.store.layout config.now
-            × (opened ≡ record {
-              store = opening_to_serve opened.store.layout device;
-              deeds = [];
-              slots = no_writes seed lease_slots;
-              counts = no_counts;
-            })) }
+            × (opened ≡ new_serving opened.store.layout lease_slots 0 seed device)) }
         ensures serves { OnOk result
             ((1 ≤ lease_slots) × CanServe PAGE config.now (D.page_count device)) }
         ensures refused { IfErr result
@@ -90,33 +86,35 @@ impl<D: PageDevice<PAGE>, const PAGE: usize> ServiceLane<D, PAGE> {
             return Err(OpenLaneFault::NoLeaseSlots);
         }
         let layout = Store::layout_for(config, &device)?;
-        let Ok(lane) = Self::with_layout(alloc, &layout, lease_slots, device, seed) else {
+        let Ok(lane) = Self::with_layout(alloc, &layout, lease_slots, 0, device, seed) else {
             return Err(OpenLaneFault::Store(OpenFault::OutOfMemory));
         };
         Ok(lane)
     }
 
-    /// An empty lane of this layout with so many slots for leases, over a device that has its pages, as `open` makes it; or
-    /// `AllocError`, with which the device is dropped. Nothing is tested again.
+    /// An empty lane of this layout with so many slots for leases, over a device that has its pages; or `AllocError`, with which
+    /// the device is dropped. Nothing is tested again.
+    ///
+    /// If `bring_back` is 0 it is as `open` makes it. If not, objects come back into memory: of so many hits on flash one has its
+    /// object copied. Half of the objects that the layout has in memory are then copies, and one that is pushed out is dropped.
     pub fn with_layout(
         alloc: Global,
         layout: &Layout,
         lease_slots: u32,
+        bring_back: u32,
         device: D,
         seed: RandomSeed,
     ) -> Result<Self, AllocError>
         requires page_size { IsPageSize PAGE }
         requires slots { 1 ≤ lease_slots }
         requires room { layout_pages layout.now ≤ D.page_count device }
-        ensures { IfOk result (λ lane. lane ≡ record {
-          store = opening_to_serve layout.now device;
-          deeds = [];
-          slots = no_writes seed lease_slots;
-          counts = no_counts;
-        }) }
+        ensures { IfOk result (λ lane. lane ≡ new_serving layout.now lease_slots bring_back seed device) }
     {
         let strikes = strikes_of(layout.sets);
-        let asked = DeedStore::with_layout(alloc, layout, strikes, device, seed)?;
+        let copies = copies_of(bring_back, layout.memory);
+        let parted = without_copies(layout, copies);
+        let mut asked = CopyStore::with_layout(alloc, &parted, strikes, device, seed)?;
+        asked.keep_copies(alloc, bring_back, copies, seed)?;
         let slots = Slots::open(alloc, seed, lease_slots)?;
         Ok(ServiceLane {
             asked,
@@ -139,7 +137,7 @@ impl<D: PageDevice<PAGE>, const PAGE: usize> ServiceLane<D, PAGE> {
         self.asked.log_usage()
     }
 
-    /// How many objects are in memory.
+    /// How many objects are in memory, copies of those on flash aside.
     pub fn memory_len(&self) -> usize
         ensures { result ≡ length self.now.store.memory.pairs }
     {
@@ -154,6 +152,7 @@ impl<D: PageDevice<PAGE>, const PAGE: usize> ServiceLane<D, PAGE> {
           store = self.now.store;
           deeds = self.now.deeds;
         }) }
+        ensures copied { AreCopies D.honest (asked_of self.now) }
         ensures counted { AreCounted self.now.deeds self.now.slots }
         ensures slots { 1 ≤ length self.now.slots.writes }
     {
@@ -173,5 +172,31 @@ impl<D: PageDevice<PAGE>, const PAGE: usize> ServiceLane<D, PAGE> {
         ensures { result ≡ self.store.device }
     {
         self.asked.into_device()
+    }
+}
+
+ghost use Rattle.std.specs.Prelude.{◌<◌};
+ghost use Rattle.service_lane.specs.Copies.{copies_of, without_copies};
+
+// How many objects in memory are copies, of so many.
+fn copies_of(bring_back: u32, objects: u32) -> u32
+    requires { 1 ≤ objects }
+    ensures share { result ≡ copies_of bring_back objects }
+    ensures few { result < objects }
+{
+    if bring_back == 0 {
+        return 0;
+    }
+    objects / 2
+}
+
+// The layout with so many objects less in memory.
+fn without_copies(layout: &Layout, copies: u32) -> Layout
+    requires { copies < layout.now.memory }
+    ensures { result ≡ without_copies layout.now copies }
+{
+    Layout {
+        memory: layout.memory - copies,
+        ..*layout
     }
 }

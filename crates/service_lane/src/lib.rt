@@ -3,6 +3,9 @@
 //! written, and when records are due to move.
 #![tactic(auto)]
 
+mod copied;
+mod copies;
+mod copy_store;
 mod counter;
 mod counts;
 mod due;
@@ -12,10 +15,12 @@ mod key_buffer;
 mod lane;
 mod lease;
 mod open_lane_fault;
+mod seen;
 mod slots;
 mod upkept;
 mod words;
 
+pub use copied::Copied;
 pub use counter::Counter;
 pub use counts::{COUNTERS, Counts};
 pub use due::{Due, is_near_end, what_is_due};

@@ -4,6 +4,8 @@ ghost use Rattle.mover.specs.Calls.{StoreGets};
 ghost use Rattle.mover.specs.Get.{answer_of};
 ghost use Rattle.deeds.specs.Asked.{IsLiveHit, IsMiss, TellsExpiry};
 ghost use Rattle.deeds.specs.Sound.{act_of};
+ghost use Rattle.certificate_checker.specs.Latest.{IsLive};
+ghost use Rattle.trace_file.specs.declared.act.Act.TheVariants.{Hit};
 
 use super::DeedStore;
 use crate::telling::{act_lent, act_seen};
@@ -12,6 +14,7 @@ use mover::{AnswerKind, get_shows};
 use page_device::PageDevice;
 use record_pages::{Answer, Key, ValueBuffer};
 use std::alloc::AllocError;
+use trace_file::ActRef;
 
 impl<D: PageDevice<PAGE>, const PAGE: usize> DeedStore<D, PAGE> {
     /// Looks the key of these bytes up, writes the value of a hit into the buffer, and tells when it expires: at a miss the
@@ -57,5 +60,16 @@ impl<D: PageDevice<PAGE>, const PAGE: usize> DeedStore<D, PAGE> {
         } }
     {
         self.trail = self.trail.then(key.bytes(), act_lent(answer, moment));
+    }
+    /// Makes a hit of a value that the caller kept a deed: on an honest device it has to be the key's latest value not since
+    /// removed, live at the moment. The store is not asked.
+    pub fn note_hit(&mut self, key: &[u8], moment: u64, value: &[u8])
+        requires live { IsTrue (D.honest self.old.store.device)
+            → IsLive self.old.deeds key.now value.now moment }
+        ensures { self.new ≡ record self.old {
+          deeds = self.old.deeds ++ record { key = key.now; act = Hit value.now moment } ∷ [];
+        } }
+    {
+        self.trail = self.trail.then(key, ActRef::Hit(value, moment));
     }
 }

@@ -19,9 +19,9 @@ use record_pages::{KeyFault, ValueBuffer};
 
 impl<D: PageDevice<PAGE>, const PAGE: usize> ServiceLane<D, PAGE> {
     /// Looks a key up, by its bytes. The value of a hit is in the buffer then, and it is told when it expires; at a miss the
-    /// buffer is as it was. No memory is taken.
+    /// buffer is as it was. Memory is taken only to bring an object back, and if it is refused the object stays where it is.
     ///
-    /// A hit is the key's latest value not since removed, live at the moment: in memory whatever the device does, on flash if
+    /// A copy of an object on flash answers as of a set. A hit is the key's latest value not since removed, live at the moment: in memory whatever the device does, on flash if
     /// it gives back what was written. The moment is the caller's, and may go backwards. `KeyEmpty` and `KeyTooLong`, for bytes that
     /// are no key's, change nothing.
     pub fn get(
@@ -45,8 +45,9 @@ impl<D: PageDevice<PAGE>, const PAGE: usize> ServiceLane<D, PAGE> {
     {
         check_key(key)?;
         let seen = self.asked.get_into(key, moment, found);
-        self.counts.count(Counter::of_answer(seen));
-        Ok(seen)
+        self.counts.count(Counter::of_answer(seen.kind));
+        self.counts.count_if(Counter::of_copied(seen.copied));
+        Ok(seen.kind)
     }
 
     /// A lease of a key, to be taken in the same hold of the lane as the get that missed: for a fill by what is read elsewhere

@@ -7,6 +7,7 @@ ghost use Rattle.mover.specs.Calls.{StorePuts};
 ghost use Rattle.trace_file.specs.declared.act.Act.{Act};
 ghost use Rattle.service_lane.specs.declared.filled.Filled.{Filled};
 ghost use Rattle.service_lane.specs.Counting.{bytes_of, counts_refused_put, counts_refused_fill};
+ghost use Rattle.service_lane.specs.Copies.{copy_gone};
 ghost use Rattle.service_lane.specs.Leases.{with_write, HoldsLease};
 ghost use Rattle.service_lane.specs.Serving.{PutsStore, FillsStore, FillLeaves, Removes};
 
@@ -178,7 +179,7 @@ impl<D: PageDevice<PAGE>, const PAGE: usize> ServiceLane<D, PAGE> {
 }
 
 use crate::slots::Slots;
-use deeds::DeedStore;
+use crate::copy_store::CopyStore;
 
 // The bytes of an object.
 fn bytes_of(key: &Key, value: &Value) -> u64
@@ -190,7 +191,7 @@ fn bytes_of(key: &Key, value: &Value) -> u64
 // Puts a value, and counts the write in its key's slot if it is stored.
 fn put_counted<D: PageDevice<PAGE>, const PAGE: usize>(
     slots: &mut Slots,
-    asked: &mut DeedStore<D, PAGE>,
+    asked: &mut CopyStore<D, PAGE>,
     key: Key,
     value: Value,
     word: u32,
@@ -200,6 +201,7 @@ fn put_counted<D: PageDevice<PAGE>, const PAGE: usize>(
         asked.old.store result asked.new.store }
     ensures deeds { OnOk result (asked.new.deeds ≡ asked.old.deeds
         ++ record { key = key; act = Act.Put value expires } ∷ []) }
+    ensures copies { OnOk result (asked.new.copies ≡ copy_gone key asked.old.copies) }
     ensures counted { OnOk result (slots.new ≡ with_write slots.old key) }
     ensures asked_kept { OnErr result (asked.new ≡ asked.old) }
     ensures slots_kept { OnErr result (slots.new ≡ slots.old) }

@@ -27,6 +27,7 @@ const SHAPE: LaneShape = LaneShape {
     lease_slots: 1,
     threshold: 1,
     admit: 65536,
+    bring_back: 0,
 };
 
 const SEED: Seed = Seed {

@@ -1,0 +1,116 @@
+// Copies in memory of objects on flash.
+ghost use Rattle.std.specs.Prelude.{◌≡◌, ◌≤◌, ◌×◌, None, IfOk, OnNone, IsSome, option_map, true, false};
+ghost use Rattle.record_pages.specs.Expiry.{timed};
+ghost use Rattle.memory_cache.specs.MemoryList.{after_get, after_put, after_remove};
+ghost use Rattle.service_lane.specs.Copies.{no_copies, with_held, live_copy, is_copy_due, hit_counted};
+
+use key_hash::RandomSeed;
+use memory_cache::MemoryCache;
+use record_pages::{Key, TimedValue, Value, ValueBuffer};
+use std::alloc::{AllocError, Global};
+use std::marker::Model;
+
+/// Copies in memory of objects on flash, the most recent first. Of so many hits on flash one has its object copied.
+#[derive(Drop)]
+pub(crate) struct Copies {
+    alloc: Global,
+    every: u32,
+    left: u32,
+    held: MemoryCache,
+}
+
+impl Model for Copies {
+    ghost use Rattle.service_lane.specs.Copies.{CopyList};
+
+    ghost Value = { CopyList };
+
+    ghost view = { λ c. record { every = c.every; left = c.left; held = c.held } };
+}
+
+impl Copies {
+    /// No copy yet, with room for so many; or `AllocError`.
+    pub(crate) fn open(
+        alloc: Global,
+        every: u32,
+        objects: u32,
+        seed: RandomSeed,
+    ) -> Result<Copies, AllocError>
+        requires { 1 ≤ objects }
+        ensures { IfOk result (λ copies. copies ≡ no_copies every objects) }
+    {
+        let held = MemoryCache::with_seed(alloc, objects, seed)?;
+        Ok(Copies {
+            alloc,
+            every,
+            left: every,
+            held,
+        })
+    }
+
+    /// The live copy of a key: its value goes into the buffer, and it comes to the front. When it expires; none if there is no
+    /// live one, and then nothing changes.
+    pub(crate) fn recall(
+        &mut self,
+        key: &[u8],
+        moment: u64,
+        found: &mut ValueBuffer,
+    ) -> Option<u64>
+        ensures copy { live_copy key.now moment self.old ≡ option_map (timed found.new) result }
+        ensures raised { IsSome result → self.new ≡ with_held (after_get key.now) self.old }
+        ensures stays { OnNone result (self.new ≡ self.old) }
+        ensures untouched { OnNone result (found.new ≡ found.old) }
+    {
+        let expires = self.lend(key, moment, found)?;
+        self.held.raise(key);
+        Some(expires)
+    }
+
+    // The same, whose copy stays in its place.
+    fn lend(&self, key: &[u8], moment: u64, found: &mut ValueBuffer) -> Option<u64>
+        ensures copy { live_copy key.now moment self.now ≡ option_map (timed found.new) result }
+        ensures untouched { OnNone result (found.new ≡ found.old) }
+    {
+        match self.held.peek_bytes(key) {
+            Some(timed) if timed.is_live(moment) => {
+                found.set(timed.value.bytes());
+                Some(timed.expires)
+            }
+            _ => None,
+        }
+    }
+
+    /// Counts a hit on flash. Whether its object is to be copied.
+    pub(crate) fn count_hit(&mut self) -> bool
+        ensures due { result ≡ is_copy_due self.old }
+        ensures counted { self.new ≡ hit_counted self.old }
+    {
+        if self.left > 1 {
+            self.left -= 1;
+            return false;
+        }
+        self.left = self.every;
+        true
+    }
+
+    /// Copies an object. Whether it did: not if memory was refused, and then nothing changes.
+    pub(crate) fn make(&mut self, key: &[u8], value: &[u8], expires: u64) -> bool
+        ensures made { result ≡ true → self.new ≡ with_held
+            (after_put (record { key = key.now; value = timed value.now expires })) self.old }
+        ensures refused { result ≡ false → self.new ≡ self.old }
+    {
+        let Ok(key) = Key::new(self.alloc, key) else {
+            return false;
+        };
+        let Ok(value) = Value::new(self.alloc, value) else {
+            return false;
+        };
+        self.held.put(key, TimedValue { value, expires }).is_ok()
+    }
+
+    /// Takes the copy of a key away, if there is one.
+    pub(crate) fn forget(&mut self, key: &[u8])
+        ensures { self.new ≡ with_held (after_remove key.now) self.old }
+    {
+        let _copy = self.held.remove_bytes(key);
+    }
+}
