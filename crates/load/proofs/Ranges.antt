@@ -8,7 +8,7 @@ use Rattle.std.specs.Char.{digit_value}
 use Rattle.std.specs.List.{list_all}
 use Rattle.std.specs.Str.Parse.{AllDigits, IsNumeral, digits_value, without_leading_plus}
 use Rattle.load.specs.declared.setting.Setting.{Setting}
-use Rattle.load.specs.declared.setting.Setting.TheVariants.{Lanes, Sets, Memory, Segments, SegmentPages, Entries, Threshold, Admit, Callers, Operations, Keys, ValueBytes, Gets, Removes, Workers, Seed, Ttl, Shards, Leases, ServedOperations, ServedKeys, ServedValueBytes, ServedTtl, Seconds}
+use Rattle.load.specs.declared.setting.Setting.TheVariants.{Lanes, Sets, Memory, Segments, SegmentPages, Entries, Threshold, Admit, Callers, Operations, Keys, ValueBytes, Gets, Removes, Workers, Seed, Ttl, Shards, Leases, BringBack, ServedOperations, ServedKeys, ServedValueBytes, ServedTtl, Seconds}
 use Rattle.load.specs.Settings.{AreAdmitted, is_admitted, is_decimal, most_bytes, row_of, value_of_text}
 
 both : (a b : Bool) → (a && b) ≡ true → (a ≡ true) × (b ≡ true)
@@ -42,6 +42,7 @@ small Seed = omega arith
 small Ttl = omega arith
 small Shards = omega arith
 small Leases = omega arith
+small BringBack = omega arith
 small ServedOperations = omega arith
 small ServedKeys = omega arith
 small ServedValueBytes = omega arith

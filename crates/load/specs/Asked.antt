@@ -28,4 +28,4 @@ numbers_of load =
 -- the numbers of a load of a cache that serves, one for each of its settings
 abbrev pub served_numbers_of : ServeLoad → List ℕ
 served_numbers_of load =
-    with_layout load.layout (load.callers ∷ load.operations ∷ load.keys ∷ load.value_bytes ∷ load.gets ∷ load.removes ∷ load.workers ∷ load.seed ∷ load.ttl ∷ load.shards ∷ load.leases ∷ load.seconds ∷ [])
+    with_layout load.layout (load.callers ∷ load.operations ∷ load.keys ∷ load.value_bytes ∷ load.gets ∷ load.removes ∷ load.workers ∷ load.seed ∷ load.ttl ∷ load.shards ∷ load.leases ∷ load.bring_back ∷ load.seconds ∷ [])

@@ -6,7 +6,7 @@ use Rattle.std.specs.Str.Parse.{digits_value, without_leading_plus}
 use Rattle.record_pages.specs.Ranges.{Range, range, range_of, is_in}
 use Rattle.record_pages.specs.declared.field.Field.TheVariants as fields
 use Rattle.load.specs.declared.setting.Setting.{Setting}
-use Rattle.load.specs.declared.setting.Setting.TheVariants.{Lanes, Sets, Memory, Segments, SegmentPages, Entries, Threshold, Admit, Callers, Operations, Keys, ValueBytes, Gets, Removes, Workers, Seed, Ttl, Shards, Leases, ServedOperations, ServedKeys, ServedValueBytes, ServedTtl, Seconds}
+use Rattle.load.specs.declared.setting.Setting.TheVariants.{Lanes, Sets, Memory, Segments, SegmentPages, Entries, Threshold, Admit, Callers, Operations, Keys, ValueBytes, Gets, Removes, Workers, Seed, Ttl, Shards, Leases, BringBack, ServedOperations, ServedKeys, ServedValueBytes, ServedTtl, Seconds}
 
 -- a row of the table
 pub record Row : Type 0 where
@@ -38,6 +38,7 @@ row_of Seed = row (codes "seed") (codes "1") (range 0 4294967295)
 row_of Ttl = row (codes "ttl") (codes "0") (range 0 1000000)
 row_of Shards = row (codes "shards") (codes "1") (range 1 1024)
 row_of Leases = row (codes "leases") (codes "0") (range 0 1048576)
+row_of BringBack = row (codes "bring-back") (codes "0") (range 0 1000000)
 row_of ServedOperations = row (codes "operations") (codes "1000000") (range 1 1000000000)
 row_of ServedKeys = row (codes "keys") (codes "1000") (range 1 100000000)
 row_of ServedValueBytes = row (codes "value-bytes") (codes "100") (range 8 2048)
@@ -66,7 +67,7 @@ settings = Lanes ∷ Sets ∷ Memory ∷ Segments ∷ SegmentPages ∷ Entries �
 
 -- the settings of a load of a cache that serves
 abbrev pub served_settings : List Setting
-served_settings = Lanes ∷ Sets ∷ Memory ∷ Segments ∷ SegmentPages ∷ Entries ∷ Threshold ∷ Admit ∷ Callers ∷ ServedOperations ∷ ServedKeys ∷ ServedValueBytes ∷ Gets ∷ Removes ∷ Workers ∷ Seed ∷ ServedTtl ∷ Shards ∷ Leases ∷ Seconds ∷ []
+served_settings = Lanes ∷ Sets ∷ Memory ∷ Segments ∷ SegmentPages ∷ Entries ∷ Threshold ∷ Admit ∷ Callers ∷ ServedOperations ∷ ServedKeys ∷ ServedValueBytes ∷ Gets ∷ Removes ∷ Workers ∷ Seed ∷ ServedTtl ∷ Shards ∷ Leases ∷ BringBack ∷ Seconds ∷ []
 
 -- the settings of the cache itself, which come first in both
 abbrev pub layout_settings : List Setting

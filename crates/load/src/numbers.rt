@@ -59,7 +59,7 @@ pub fn load_with(numbers: &[u32; 17], json: bool, device: Option<FileName>, trac
 /// of flash and of memory if they are given, whose keys are drawn by Zipf's law or alike, and whose devices are files of this folder,
 /// or in memory if there is none.
 pub fn served_with(
-    numbers: &[u32; 20],
+    numbers: &[u32; 21],
     size: Option<u64>,
     memory_bytes: Option<u64>,
     zipf: bool,
@@ -87,7 +87,8 @@ pub fn served_with(
         ttl: numbers[16],
         shards: numbers[17],
         leases: numbers[18],
-        seconds: numbers[19],
+        bring_back: numbers[19],
+        seconds: numbers[20],
         size,
         memory_bytes,
         zipf,

@@ -33,6 +33,8 @@ pub struct ServeLoad {
     pub shards: u32,
     /// Slots of each lane for leases; 0 for no leases.
     pub leases: u32,
+    /// One of so many hits on flash has its object brought back into memory, in each lane; 0 brings none back.
+    pub bring_back: u32,
     /// Seconds after which no caller begins an operation; 0 for no such limit.
     pub seconds: u32,
     /// Bytes of flash that the cache is to be made for, of all lanes together; none if its numbers are given.
@@ -55,5 +57,6 @@ pub struct ServeLoad {
     ghost ttl_range: { ttl ≤ 1000000000 },
     ghost shards_range: { (1 ≤ shards) × (shards ≤ 1024) },
     ghost leases_range: { leases ≤ 1048576 },
+    ghost bring_back_range: { bring_back ≤ 1000000 },
     ghost seconds_range: { seconds ≤ 2147483648 },
 }

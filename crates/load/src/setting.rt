@@ -47,6 +47,8 @@ pub enum Setting {
     Shards,
     /// Slots of each lane for leases; 0 for no leases.
     Leases,
+    /// One of so many hits on flash has its object brought back into memory; 0 brings none back.
+    BringBack,
     /// Operations of each caller.
     ServedOperations,
     /// Keys that each caller has for itself.
@@ -81,7 +83,7 @@ pub const SETTINGS: [Setting; 17] = [
 ];
 
 /// The settings of a load of a cache that serves, in their order.
-pub const SERVE_SETTINGS: [Setting; 20] = [
+pub const SERVE_SETTINGS: [Setting; 21] = [
     Setting::Lanes,
     Setting::Sets,
     Setting::Memory,
@@ -101,6 +103,7 @@ pub const SERVE_SETTINGS: [Setting; 20] = [
     Setting::ServedTtl,
     Setting::Shards,
     Setting::Leases,
+    Setting::BringBack,
     Setting::Seconds,
 ];
 
@@ -140,6 +143,7 @@ impl Setting {
             Setting::Ttl | Setting::ServedTtl => "ttl",
             Setting::Shards => "shards",
             Setting::Leases => "leases",
+            Setting::BringBack => "bring-back",
             Setting::Seconds => "seconds",
         }
     }
@@ -205,6 +209,9 @@ impl Setting {
             Setting::Leases => {
                 "Lease slots per lane, 0 to 1048576; 0 turns leases off: gets that\nmiss do not fill. More slots make fewer fills stale. [default: 0]"
             }
+            Setting::BringBack => {
+                "One of so many hits on flash brings its object back into memory, 0\nto 1000000; 0 brings none back. A larger number brings fewer back.\nAbove 0, half of the objects in memory are such copies. [default: 0]"
+            }
             Setting::ServedOperations => {
                 "Operations per caller, 1 to 1000000000. More operations take more\ntime, and no more memory. [default: 1000000]"
             }
@@ -235,7 +242,8 @@ impl Setting {
             | Setting::Threshold
             | Setting::Admit
             | Setting::Shards
-            | Setting::Leases => "Cache options",
+            | Setting::Leases
+            | Setting::BringBack => "Cache options",
             _ => "Load options",
         }
     }
@@ -264,6 +272,7 @@ impl Setting {
             Setting::Ttl => 0..=1000000,
             Setting::Shards => 1..=1024,
             Setting::Leases => 0..=1048576,
+            Setting::BringBack => 0..=1000000,
             Setting::ServedOperations => 1..=1000000000,
             Setting::ServedKeys => 1..=100000000,
             Setting::ServedValueBytes => 8..=2048,
@@ -305,7 +314,8 @@ impl Setting {
             Setting::Gets => "70",
             Setting::Removes => "5",
             Setting::Seed | Setting::Shards => "1",
-            Setting::Ttl | Setting::ServedTtl | Setting::Leases | Setting::Seconds => "0",
+            Setting::Ttl | Setting::ServedTtl => "0",
+            Setting::Leases | Setting::BringBack | Setting::Seconds => "0",
         }
     }
 
