@@ -23,9 +23,9 @@ _kangaroo() {
             run:--gets | run:--removes | run:--workers | run:--seed | run:--ttl |\
             serve-load:--lanes | serve-load:--sets | serve-load:--memory | serve-load:--segments | serve-load:--segment-pages |\
             serve-load:--entries | serve-load:--threshold | serve-load:--admit | serve-load:--shards | serve-load:--leases |\
-            serve-load:--size | serve-load:--memory-bytes | serve-load:--callers | serve-load:--operations | serve-load:--keys |\
-            serve-load:--value-bytes | serve-load:--gets | serve-load:--removes | serve-load:--workers | serve-load:--seed |\
-            serve-load:--ttl | serve-load:--seconds) wanted=nothing ;;
+            serve-load:--bring-back | serve-load:--size | serve-load:--memory-bytes | serve-load:--callers | serve-load:--operations |\
+            serve-load:--keys | serve-load:--value-bytes | serve-load:--gets | serve-load:--removes | serve-load:--workers |\
+            serve-load:--seed | serve-load:--ttl | serve-load:--seconds) wanted=nothing ;;
     esac
     if [[ -z $wanted && $word == -* ]]; then
         case $command in
@@ -35,7 +35,7 @@ _kangaroo() {
             judge) COMPREPLY=($(compgen -W '--explain --json --picture --trace --at-least --skew -h --help' -- "$word")) ;;
             show) COMPREPLY=($(compgen -W '--key -h --help' -- "$word")) ;;
             run) COMPREPLY=($(compgen -W '--device --trace --json -h --help --lanes --sets --memory --segments --segment-pages --entries --threshold --admit --callers --operations --keys --value-bytes --gets --removes --workers --seed --ttl' -- "$word")) ;;
-            serve-load) COMPREPLY=($(compgen -W '--device --json -h --help --lanes --sets --memory --segments --segment-pages --entries --threshold --admit --shards --leases --size --memory-bytes --callers --operations --keys --value-bytes --gets --removes --workers --seed --ttl --seconds --zipf' -- "$word")) ;;
+            serve-load) COMPREPLY=($(compgen -W '--device --json -h --help --lanes --sets --memory --segments --segment-pages --entries --threshold --admit --shards --leases --bring-back --size --memory-bytes --callers --operations --keys --value-bytes --gets --removes --workers --seed --ttl --seconds --zipf' -- "$word")) ;;
         esac
         return
     fi

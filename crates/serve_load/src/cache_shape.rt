@@ -15,6 +15,8 @@ pub struct CacheShape {
     pub shards: u32,
     /// Slots of each lane for leases, 1 to 1,048,576: one if the load has none, which nobody uses.
     pub lease_slots: u32,
+    /// One of so many hits on flash has its object brought back into memory, in each lane; 0 brings none back.
+    pub bring_back: u32,
     ghost shards_range: { (1 ≤ shards) × (shards ≤ 1024) },
     ghost lease_slots_range: { (1 ≤ lease_slots) × (lease_slots ≤ 1048576) },
 }
@@ -31,17 +33,20 @@ impl CacheShape {
         ensures refused { IfErr result (λ fault. RefusesSize load.now load.now.size fault) }
     {
         let lease_slots = load.leases.max(1);
+        let bring_back = load.bring_back;
         match load.size {
             None => Ok(CacheShape {
                 layout: load.layout,
                 shards: load.shards,
                 lease_slots,
+                bring_back,
             }),
             Some(size) => match sized_shape(load, size) {
                 Ok(sized) => Ok(CacheShape {
                     layout: sized.layout,
                     shards: sized.shards,
                     lease_slots,
+                    bring_back,
                 }),
                 Err(fault) => Err(fault),
             },

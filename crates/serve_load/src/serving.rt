@@ -236,6 +236,7 @@ fn open<D: PageDevice<PAGE>, L: KeyLanes, J: BookName>(
         &shape.layout,
         shape.shards,
         shape.lease_slots,
+        shape.bring_back,
         devices,
         Rriparoo,
         seed,

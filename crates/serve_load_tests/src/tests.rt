@@ -1,4 +1,5 @@
 //! Loads of a cache that serves.
+mod bringing;
 mod ends;
 mod limits;
 mod loads;

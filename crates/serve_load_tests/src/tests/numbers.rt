@@ -146,7 +146,7 @@ fn a_load_in_memory_tells_what_its_seed_determines(rt: HostRuntime) -> Result<()
 }
 
 /// The number of a report's line with this name.
-fn number_of(ran: &Ran, name: &str) -> Option<u64> {
+pub fn number_of(ran: &Ran, name: &str) -> Option<u64> {
     let Ok(text) = str::from_utf8(&ran.out) else {
         return None;
     };

@@ -26,6 +26,7 @@ fn number_of(load: &ServeLoad, setting: Setting) -> u32 {
         Setting::ServedTtl => load.ttl,
         Setting::Shards => load.shards,
         Setting::Leases => load.leases,
+        Setting::BringBack => load.bring_back,
         Setting::Seconds => load.seconds,
         // Those of a run.
         _ => 0,
@@ -85,14 +86,14 @@ fn each_setting_takes_the_numbers_of_its_range(rt: HostRuntime) -> Result<(), Fa
 }
 
 /// The default of each setting, in their order.
-const DEFAULTS: [u32; 20] = [
-    4, 64, 64, 8, 4, 4096, 2, 65536, 4, 1000000, 1000, 100, 70, 5, 2, 1, 0, 1, 0, 0,
+const DEFAULTS: [u32; 21] = [
+    4, 64, 64, 8, 4, 4096, 2, 65536, 4, 1000000, 1000, 100, 70, 5, 2, 1, 0, 1, 0, 0, 0,
 ];
 
 #[test]
 fn a_setting_that_is_not_given_is_its_default(rt: HostRuntime) {
     let line = parse_line(rt.alloc(), &["k", "serve-load"]);
-    for place in 0..20usize {
+    for place in 0..21usize {
         assert!(rt; gives(&line, SERVE_SETTINGS[place], DEFAULTS[place]));
     }
 }
@@ -297,11 +298,13 @@ fn with_a_size_the_other_settings_may_be_given(rt: HostRuntime) {
         "--threshold=3",
         "--admit=7",
         "--leases=5",
+        "--bring-back=9",
     ];
     let line = parse_line(rt.alloc(), &words);
     assert!(rt; gives(&line, Setting::Threshold, 3));
     assert!(rt; gives(&line, Setting::Admit, 7));
     assert!(rt; gives(&line, Setting::Leases, 5));
+    assert!(rt; gives(&line, Setting::BringBack, 9));
 }
 
 /// Whether the help of a setting ends with its default.
