@@ -1,5 +1,5 @@
 -- Copies in memory of objects on flash, and what a get does with them.
-use Rattle.std.specs.Prelude.{◌≡◌, ℕ, ◌∸◌, ◌/◌, List, [], Option, Some, None, option_map, option_and_then, Ok, Bool, true, IsTrue, not, nat_lt, if◌then◌else◌}
+use Rattle.std.specs.Prelude.{◌≡◌, ℕ, ◌∸◌, ◌*◌, ◌/◌, List, [], Option, Some, None, option_map, option_and_then, Ok, Bool, true, IsTrue, not, nat_lt, if◌then◌else◌}
 use Rattle.record_pages.specs.Expiry.{is_live, timed}
 use Rattle.record_pages.specs.declared.layout.Layout.{Layout}
 use Rattle.record_pages.specs.declared.answer.Answer.{Answer}
@@ -39,9 +39,9 @@ no_copies every objects = record { every = every; left = every; held = empty obj
 abbrev pub copies_for : ℕ → ℕ → Option CopyList
 copies_for every objects = if nat_lt 0 every then if nat_lt 0 objects then Some (no_copies every objects) else None else None
 
--- how many of a lane's objects in memory are copies: half, if it brings any back
+-- how many of a lane's objects in memory are copies: three of four, if it brings any back
 abbrev pub copies_of : ℕ → ℕ → ℕ
-copies_of bring_back objects = if nat_lt 0 bring_back then objects / 2 else 0
+copies_of bring_back objects = if nat_lt 0 bring_back then objects / 4 * 3 else 0
 
 -- the layout with so many objects less in memory
 abbrev pub without_copies : Layout → ℕ → Layout

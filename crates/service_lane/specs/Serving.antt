@@ -43,7 +43,7 @@ abbrev pub opening_to_serve : {D : Type 0} → Layout → D → StoreState D
 opening_to_serve layout device = opening_with (strikes_of layout.sets) layout device
 
 -- A lane that was just opened to serve, over a device: with this many slots for leases, which have seen no write; and if one in so many
--- hits on flash has its object brought back into memory, with room for copies in place of half of the objects there.
+-- hits on flash has its object brought back into memory, with room for copies in place of three of four objects there.
 abbrev pub new_serving : {D : Type 0} → Layout → ℕ → ℕ → RandomSeed → D → Serving D
 new_serving layout lease_slots bring_back seed device = record {
   store = opening_to_serve (without_copies layout (copies_of bring_back layout.memory)) device;

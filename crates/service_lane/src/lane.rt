@@ -96,7 +96,7 @@ impl<D: PageDevice<PAGE>, const PAGE: usize> ServiceLane<D, PAGE> {
     /// the device is dropped. Nothing is tested again.
     ///
     /// If `bring_back` is 0 it is as `open` makes it. If not, objects come back into memory: of so many hits on flash one has its
-    /// object copied. Half of the objects that the layout has in memory are then copies, and one that is pushed out is dropped.
+    /// object copied. Of each four objects that the layout has in memory three are then copies, and one that is pushed out is dropped.
     pub fn with_layout(
         alloc: Global,
         layout: &Layout,
@@ -187,7 +187,7 @@ fn copies_of(bring_back: u32, objects: u32) -> u32
     if bring_back == 0 {
         return 0;
     }
-    objects / 2
+    objects / 4 * 3
 }
 
 // The layout with so many objects less in memory.
