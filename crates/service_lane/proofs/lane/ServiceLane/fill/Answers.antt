@@ -10,3 +10,9 @@ returns-clause-stale g c =
     let held : HoldsLease c.self.inside.slots c.bytes.result.now a.lease.writes = c.holds.ensures.0 c.if-not-holds.false in
     let holds = subst (λ (s : Serving g.row.D.Denot). HoldsLease s.slots a.key a.lease.writes) c.self.view_is (subst (λ (k : List ℕ). HoldsLease c.self.inside.slots k a.lease.writes) c.bytes.ensures.value held) in
     (λ stale. absurd (cc), λ ended. absurd (ended holds))
+
+pub returns-then-not-holds-clause-stale : goal.returns-then-not-holds-clause-stale
+returns-then-not-holds-clause-stale g c = ?
+
+pub returns-then-not-holds-clause-large : goal.returns-then-not-holds-clause-large
+returns-then-not-holds-clause-large g c = ?
