@@ -10,7 +10,7 @@ use Rattle.record_pages.specs.declared.tier.Tier.{Tier}
 use Rattle.record_pages.specs.declared.tier.Tier.TheVariants.{Memory, Log, Set}
 use Rattle.record_pages.specs.declared.timed_value.TimedValue.{TimedValue}
 use Rattle.memory_cache.specs.declared.pair.Pair.{Pair}
-use Rattle.memory_cache.specs.MemoryList.{MemoryList, after_get, after_put, after_remove, value_in}
+use Rattle.memory_cache.specs.MemoryList.{after_get, after_put, after_remove, value_in}
 use Rattle.memory_cache.specs.Laws.{FoundIsHeld}
 use Rattle.mover.specs.Calls.{StoreGets}
 use Rattle.mover.specs.Get.{answer_of}
@@ -23,7 +23,7 @@ use Rattle.certificate_checker.proofs.public_laws.LatestLemmas.{live_is}
 use Rattle.deeds.specs.Sound.{act_of}
 use Rattle.deeds.proofs.public_laws.Copying.{current_put, current_removed, current_kept, current_raised, read_keeps}
 use Rattle.service_lane.specs.Asked.{AreCurrent, TellsExpiry}
-use Rattle.service_lane.specs.Copies.{CopyList, CopyAsked, copied_pairs, copies_for, no_copies, copy_gone, copy_raised, copy_made, answer_counted, hit_counted, with_held, if_live, live_copy, copy_in, CopiesHit, HitLeaves, StoreAnswers, MakesCopy, GetsCopied}
+use Rattle.service_lane.specs.Copies.{CopyList, CopyAsked, copied_pairs, copies_for, no_copies, copy_gone, copy_raised, copy_made, answer_counted, if_live, live_copy, copy_in, HitLeaves, MakesCopy, GetsCopied}
 use Rattle.service_lane.specs.declared.copied.Copied.{Copied}
 use Rattle.service_lane.specs.declared.copied.Copied.TheVariants.{Nothing, Answered, Made}
 
@@ -124,7 +124,7 @@ module _ {D : Type 0} (size : ℕ) (honest : D → Bool) (failures : D → ℕ) 
 -- ---- copies that are kept
 
 not_zero : (n : ℕ) → (n ≡ 0 → ⊥) → eqb n 0 ≡ false
-not_zero n other = elim (eqb_tells n 0) [ | inl same ↦ absurd (other same.1) | inr is ↦ is.0 ]
+not_zero n other = elim (eqb_tells n 0) [ inl same ↦ absurd (other same.1) | inr is ↦ is.0 ]
 
 -- if neither number is 0 there are copies
 pub some_kept : (every objects : ℕ) → (every ≡ 0 → ⊥) → (objects ≡ 0 → ⊥) → copies_for every objects ≡ Some (no_copies every objects)

@@ -49,12 +49,7 @@ impl Copies {
 
     /// The live copy of a key: its value goes into the buffer, and it comes to the front. When it expires; none if there is no
     /// live one, and then nothing changes.
-    pub(crate) fn recall(
-        &mut self,
-        key: &[u8],
-        moment: u64,
-        found: &mut ValueBuffer,
-    ) -> Option<u64>
+    pub(crate) fn recall(&mut self, key: &[u8], moment: u64, found: &mut ValueBuffer) -> Option<u64>
         ensures copy { live_copy key.now moment self.old ≡ option_map (timed found.new) result }
         ensures raised { IsSome result → self.new ≡ with_held (after_get key.now) self.old }
         ensures stays { (result ≡ None) → self.new ≡ self.old }

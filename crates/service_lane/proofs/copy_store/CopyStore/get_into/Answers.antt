@@ -1,5 +1,5 @@
 -- The store after a get that no copy answered.
-use Rattle.std.proofs.Common.{◌≡◌, ℕ, List, None, ap, sym, ◌∙◌, subst}
+use Rattle.std.proofs.Common.{◌≡◌, None, ap, ◌∙◌, subst}
 use Rattle.std.specs.Prelude.{IsTrue, option_map}
 use Rattle.record_pages.specs.Expiry.{timed}
 use Rattle.mover.specs.Get.{answer_of}

@@ -1,5 +1,5 @@
 -- The copies after a put that was stored.
-use Rattle.std.proofs.Common.{◌≢◌, ℕ, List, Ok, ap, sym, ◌∙◌, subst}
+use Rattle.std.proofs.Common.{ℕ, List, Ok, ap, ◌∙◌, subst}
 use Rattle.std.specs.Prelude.{IsTrue}
 use Rattle.record_pages.specs.Expiry.{timed}
 use Rattle.mover.specs.Calls.{StorePuts}

@@ -1,5 +1,5 @@
 -- The store after a copy answered, or none.
-use Rattle.std.proofs.Common.{rules, ◌≡◌, ◌++◌, ◌∷◌, [], ℕ, List, Option, Some, None, ap, sym, ◌∙◌, refl, subst}
+use Rattle.std.proofs.Common.{rules, ◌≡◌, ℕ, List, Some, ap, sym, ◌∙◌, refl, subst}
 use Rattle.std.specs.Prelude.{IsTrue}
 use Rattle.record_pages.specs.Expiry.{timed}
 use Rattle.record_pages.specs.declared.answer.Answer.TheVariants.{Hit}
@@ -18,10 +18,13 @@ invariant_of-self-in_err-expires g c is =
     subst (λ (l : CopyList). AreRight deeds (Some l)) (sym (c.recall.ensures.stays c.in_err-expires.was)) right
 
 pub note_hit-requires : goal.note_hit-requires
-note_hit-requires g c = (search rules, λ is.
-    let deeds = c.self.inside.asked.deeds in
-    let right : AreRight deeds (Some c.in-Some.copies) = subst (AreRight deeds) c.in-Some.is (c.self.invariant is) in
-    subst (λ (v : List ℕ). IsLive deeds c.args.key.now v c.args.moment) (sym c.bytes.ensures.value) (copy_live c.found_is_held.ensures deeds c.args.key.now c.args.moment c.in-Some.copies c.recall.new.found c.in_ok-expires.expires c.in_ok-expires.ensures.copy right))
+note_hit-requires g c = (
+  search rules,
+  λ is.
+      let deeds = c.self.inside.asked.deeds in
+      let right : AreRight deeds (Some c.in-Some.copies) = subst (AreRight deeds) c.in-Some.is (c.self.invariant is) in
+      subst (λ (v : List ℕ). IsLive deeds c.args.key.now v c.args.moment) (sym c.bytes.ensures.value) (copy_live c.found_is_held.ensures deeds c.args.key.now c.args.moment c.in-Some.copies c.recall.new.found c.in_ok-expires.expires c.in_ok-expires.ensures.copy right),
+)
 
 pub invariant_of-self-2 : goal.invariant_of-self-2
 invariant_of-self-2 g c is =

@@ -1,5 +1,5 @@
 -- The copies after a removal.
-use Rattle.std.proofs.Common.{◌≢◌, ap, sym, ◌∙◌, subst}
+use Rattle.std.proofs.Common.{ap, ◌∙◌, subst}
 use Rattle.std.specs.Prelude.{IsTrue}
 use Rattle.trace_file.specs.declared.act.Act.TheVariants.{Remove}
 use Rattle.certificate_checker.specs.Current.{current}
