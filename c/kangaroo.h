@@ -181,7 +181,7 @@ typedef struct kangaroo_options {
     uint32_t segment_pages;  /* 1 to 64: pages of a segment */
     uint32_t log_objects;    /* 1 to 1,048,576: objects of a lane that its log can hold */
 
-    /* One of so many hits on flash has its object brought back into memory, and half of the objects in memory are such
+    /* One of so many hits on flash has its object brought back into memory. Of four objects in memory three are such
      * copies: default 8; 1: each hit; 0: none comes back, and all of memory is for what is new. */
     uint32_t bring_back;
 } kangaroo_options;

@@ -5,7 +5,7 @@ use Rattle.record_pages.specs.declared.layout.Layout.{Layout}
 use Rattle.cache_sizes.specs.Shapes.{file_pages}
 use Rattle.page_device.specs.Counting.{no_device_counts}
 use Rattle.key_hash.specs.Hashing.{derived}
-use Rattle.service_lane.specs.Serving.{new_serving}
+use Rattle.service_lane.specs.Serving.{OpensServing}
 use Rattle.service_lane.specs.Words.{words_for}
 use Rattle.c_lane.specs.declared.lane_shape.LaneShape.{LaneShape}
 use Rattle.c_lane.specs.declared.seed.Seed.{Seed}
@@ -19,7 +19,7 @@ use Rattle.c_lane.specs.Shapes.{config_of, first_faulty_field}
 pub record Opens {D : Type 0} (s : LaneShape) (seed : Seed) (number : ℕ) (device : D) (lane : LaneState D) : Type 0 where
   pub layout : Layout
   pub numbers : HasNumbersOf layout (config_of s)
-  pub serving : lane.serving ≡ new_serving layout s.lease_slots s.bring_back (derived (seed_of seed) number) (record { device = device; counts = no_device_counts })
+  pub serving : OpensServing layout s.lease_slots s.bring_back (derived (seed_of seed) number) (record { device = device; counts = no_device_counts }) lane.serving
   pub words : lane.words ≡ words_for (seed_of seed) number
 
 -- a lane of a shape can be opened over this many pages, memory aside

@@ -9,7 +9,11 @@ use Rattle.record_pages.specs.Expiry.{timed}
 use Rattle.service_lane.specs.declared.helped.Helped.{Helped}
 use Rattle.service_lane.specs.declared.upkept.Upkept.{Upkept}
 use Rattle.service_lane.specs.declared.upkept.Upkept.TheVariants as upkept
-use Rattle.service_lane.specs.Serving.{Serving, Gets, PutsStore, FillsStore, Removes}
+use Rattle.mover.specs.Store.{StoreState}
+use Rattle.service_lane.specs.Copies.{GetsCopied}
+use Rattle.service_lane.specs.Serving.{Serving, Gets, PutsStore, FillsStore, Removes, asked_of}
+use Rattle.service_lane.specs.declared.copied.Copied.{Copied}
+use Rattle.service_lane.specs.declared.copied.Copied.TheVariants.{Nothing, Answered, Made}
 use Rattle.service_lane.specs.Upkeep.{Upkeeps, HelpsOnce, HelpsSteps, Helps}
 
 module _ {D : Type 0} (size : ℕ) (honest : D → Bool) (failures : D → ℕ) (held : D → ℕ → Option (List ℕ)) where
@@ -18,7 +22,12 @@ module _ {D : Type 0} (size : ℕ) (honest : D → Bool) (failures : D → ℕ) 
   IsAsHonest old new = honest new.store.device ≡ honest old.store.device
 
   pub gets_keep : (key : List ℕ) (moment : ℕ) (answer : Answer) (old new : Serving D) → Gets size honest failures held key moment answer old new → IsAsHonest old new
-  gets_keep key moment answer old new gets = gets.gets.reads.honesty
+  gets_keep key moment answer old new gets = by gets.copied gets.gets
+    where
+      by : (copied : Copied) → GetsCopied size honest failures held copied key moment answer (asked_of old) (asked_of new) → IsAsHonest old new
+      by Answered answers = ap (λ (s : StoreState D). honest s.device) answers.store
+      by Nothing answers = answers.0.gets.reads.honesty
+      by Made answers = answers.0.gets.reads.honesty
 
   pub puts_keep : (key value : List ℕ) (expires word : ℕ) (pushed : Pushed) (old new : Serving D) → PutsStore size held (record { key = key; value = timed value expires }) word pushed old new → IsAsHonest old new
   puts_keep key value expires word pushed old new puts = ap honest puts.puts.device

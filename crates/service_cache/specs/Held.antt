@@ -10,7 +10,7 @@ use Rattle.rand_pcg.specs.Lcg.{Lcg}
 use Rattle.page_device.specs.Counting.{CountedDevice, no_device_counts}
 use Rattle.service_lane.specs.Counting.{counts_stale, counts_lease}
 use Rattle.service_lane.specs.Leases.{writes_for}
-use Rattle.service_lane.specs.Serving.{Serving, Gets, new_serving}
+use Rattle.service_lane.specs.Serving.{Serving, Gets, OpensServing}
 use Rattle.service_lane.specs.WithHelp.{FillsAndHelps}
 use Rattle.service_lane.specs.declared.filled.Filled.{Filled}
 use Rattle.service_lane.specs.declared.filled.Filled.TheVariants.{Stored, Stale}
@@ -42,8 +42,8 @@ IsAsSaid said honest held = IsTrue (said held.lane.register.number) → IsTrue (
 
 -- a new lane of this number: empty, of this layout, over this device, with this many slots for leases that have seen no write, and
 -- sorted by the cache's seed for the number; one in so many hits on flash has its object brought back
-abbrev pub new_lane : {D : Type 0} → Layout → ℕ → ℕ → RandomSeed → ℕ → D → Serving (CountedDevice D)
-new_lane layout lease_slots bring_back seed number device = new_serving layout lease_slots bring_back (derived seed number) (record { device = device; counts = no_device_counts })
+abbrev pub IsNewLane : {D : Type 0} → Layout → ℕ → ℕ → RandomSeed → ℕ → D → Serving (CountedDevice D) → Type 0
+IsNewLane layout lease_slots bring_back seed number device new = OpensServing layout lease_slots bring_back (derived seed number) (record { device = device; counts = no_device_counts }) new
 
 -- what comes after an answer to a look-up: at a miss a lease of the key's slot, which is counted; at a hit nothing
 abbrev pub LeasesAfter : {D : Type 0} → LookedUp → List ℕ → Serving D → Serving D → Type 0

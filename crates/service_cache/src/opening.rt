@@ -3,7 +3,7 @@ ghost use Rattle.std.specs.Prelude.{◌≡◌, ◌≤◌, ◌<◌, ◌^◌, All,
 ghost use Rattle.record_pages.specs.Asked.{layout_pages};
 ghost use Rattle.record_pages.specs.Sizes.{IsPageSize};
 ghost use Rattle.service_lane.specs.Words.{words_for};
-ghost use Rattle.service_cache.specs.Held.{new_lane};
+ghost use Rattle.service_cache.specs.Held.{IsNewLane};
 ghost use Rattle.service_cache.specs.Sorted.{AreAsSaid};
 
 use crate::guarded::Guarded;
@@ -70,8 +70,8 @@ fn guarded_over<D: PageDevice<PAGE>, const PAGE: usize, L: KeyLanes, J: BookName
     requires room { layout_pages layout.now ≤ D.page_count device }
     requires few { L.lanes < 2 ^ 32 }
     requires honest { IsTrue (L.is_honest register.number) → IsTrue (D.honest device) }
-    ensures serving { IfOk result (λ guarded. guarded.lane.serving
-        ≡ new_lane layout.now lease_slots bring_back seed register.number device) }
+    ensures serving { IfOk result (λ guarded. IsNewLane layout.now lease_slots bring_back seed register.number
+        device guarded.lane.serving) }
     ensures register { IfOk result (λ guarded. guarded.lane.register ≡ register) }
     ensures words { IfOk result (λ guarded. guarded.words ≡ words_for seed register.number) }
 {

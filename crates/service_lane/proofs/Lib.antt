@@ -1,3 +1,4 @@
+mod Copying
 mod StepCounts
 mod Tending
 mod Writing

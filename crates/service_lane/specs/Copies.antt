@@ -1,6 +1,7 @@
 -- Copies in memory of objects on flash, and what a get does with them.
-use Rattle.std.specs.Prelude.{◌≡◌, ℕ, ◌∸◌, ◌/◌, List, [], Option, Some, None, option_map, option_and_then, Ok, Bool, true, IsTrue, not, nat_lt, if◌then◌else◌}
+use Rattle.std.specs.Prelude.{◌≡◌, ℕ, ◌-◌, ◌*◌, ◌/◌, List, [], Option, Some, None, option_map, option_and_then, Ok, Bool, true, IsTrue, not, nat_lt, ◌==◌, if◌then◌else◌}
 use Rattle.record_pages.specs.Expiry.{is_live, timed}
+use Rattle.record_pages.specs.declared.config.Config.{Config}
 use Rattle.record_pages.specs.declared.layout.Layout.{Layout}
 use Rattle.record_pages.specs.declared.answer.Answer.{Answer}
 use Rattle.record_pages.specs.declared.answer.Answer.TheVariants.{Hit, Miss}
@@ -37,15 +38,24 @@ no_copies every objects = record { every = every; left = every; held = empty obj
 
 -- the copies of a lane that is told to copy one in so many, into room for so many: if either is none, it makes no copies
 abbrev pub copies_for : ℕ → ℕ → Option CopyList
-copies_for every objects = if nat_lt 0 every then if nat_lt 0 objects then Some (no_copies every objects) else None else None
+copies_for every objects = if every == 0 then None else if objects == 0 then None else Some (no_copies every objects)
 
--- how many of a lane's objects in memory are copies: half, if it brings any back
+-- how many of a lane's objects in memory are copies: three of four, if it brings any back
 abbrev pub copies_of : ℕ → ℕ → ℕ
-copies_of bring_back objects = if nat_lt 0 bring_back then objects / 2 else 0
+copies_of bring_back objects = if bring_back == 0 then 0 else objects / 4 * 3
 
--- the layout with so many objects less in memory
-abbrev pub without_copies : Layout → ℕ → Layout
-without_copies layout copies = record layout { memory = layout.memory ∸ copies }
+-- a layout's numbers, with so many objects less in memory
+abbrev pub numbers_without : Layout → ℕ → Config
+numbers_without layout copies = record {
+  lanes = layout.lanes;
+  sets = layout.sets;
+  memory = layout.memory - copies;
+  segments = layout.segments;
+  segment_pages = layout.segment_pages;
+  entries = layout.entries;
+  threshold = layout.threshold;
+  admit = layout.admit;
+}
 
 -- the pairs of the copies
 abbrev pub copied_pairs : Option CopyList → List Pair
@@ -86,7 +96,7 @@ is_copy_due c = not (nat_lt 1 c.left)
 
 -- a hit on flash more
 abbrev pub hit_counted : CopyList → CopyList
-hit_counted c = record c { left = if nat_lt 1 c.left then c.left ∸ 1 else c.every }
+hit_counted c = record c { left = if nat_lt 1 c.left then c.left - 1 else c.every }
 
 -- what an answer of the store counts: a hit on flash
 abbrev pub answer_counted : Answer → Option CopyList → Option CopyList

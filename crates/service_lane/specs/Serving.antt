@@ -1,5 +1,5 @@
 -- A lane that serves, when one is opened, and what a fill does.
-use Rattle.std.specs.Prelude.{◌≡◌, ◌≤◌, ℕ, List, [], ◌∷◌, ◌++◌, Option, Bool, IsTrue}
+use Rattle.std.specs.Prelude.{◌≡◌, ◌≤◌, ℕ, List, [], ◌∷◌, ◌++◌, Option, Bool, IsTrue, Ok}
 use Rattle.record_pages.specs.declared.pushed.Pushed.{Pushed}
 use Rattle.memory_cache.specs.declared.pair.Pair.{Pair}
 use Rattle.mover.specs.Calls.{StorePuts, StoreRemoves}
@@ -8,10 +8,11 @@ use Rattle.key_hash.specs.declared.random_seed.RandomSeed.{RandomSeed}
 use Rattle.service_lane.specs.Counters.{no_counts}
 use Rattle.service_lane.specs.Counting.{counts_get, counts_put, counts_fill, counts_stale, counts_removal}
 use Rattle.service_lane.specs.Asked.{IsLiveHit}
-use Rattle.service_lane.specs.Copies.{CopyList, CopyAsked, GetsCopied, copies_for, copies_of, copy_gone, without_copies}
+use Rattle.service_lane.specs.Copies.{CopyList, CopyAsked, GetsCopied, copies_for, copies_of, copy_gone, numbers_without}
 use Rattle.service_lane.specs.declared.copied.Copied.{Copied}
 use Rattle.deeds.specs.Sound.{act_of}
 use Rattle.record_pages.specs.declared.answer.Answer.{Answer}
+use Rattle.record_pages.specs.Asked.{HasNumbersOf}
 use Rattle.record_pages.specs.declared.config.Config.{Config}
 use Rattle.mover.specs.Opening.{RefusesStore}
 use Rattle.mover.specs.Store.{StoreState, opening_with}
@@ -42,16 +43,17 @@ asked_of s = record { store = s.store; deeds = s.deeds; copies = s.copies }
 abbrev pub opening_to_serve : {D : Type 0} → Layout → D → StoreState D
 opening_to_serve layout device = opening_with (strikes_of layout.sets) layout device
 
--- A lane that was just opened to serve, over a device: with this many slots for leases, which have seen no write; and if one in so many
--- hits on flash has its object brought back into memory, with room for copies in place of half of the objects there.
-abbrev pub new_serving : {D : Type 0} → Layout → ℕ → ℕ → RandomSeed → D → Serving D
-new_serving layout lease_slots bring_back seed device = record {
-  store = opening_to_serve (without_copies layout (copies_of bring_back layout.memory)) device;
-  deeds = [];
-  copies = copies_for bring_back (copies_of bring_back layout.memory);
-  slots = no_writes seed lease_slots;
-  counts = no_counts;
-}
+-- A lane that was just opened to serve, of this layout over a device, with this many slots for leases, which have seen no write. If one
+-- in so many hits on flash has its object brought back, three of four objects in memory are copies, and the others the store's.
+pub record OpensServing {D : Type 0} (layout : Layout) (lease_slots bring_back : ℕ) (seed : RandomSeed) (device : D) (new : Serving D) : Type 0 where
+  pub numbers : HasNumbersOf new.store.layout (numbers_without layout (copies_of bring_back layout.memory))
+  pub opened : new ≡ record {
+    store = opening_to_serve new.store.layout device;
+    deeds = [];
+    copies = copies_for bring_back (copies_of bring_back layout.memory);
+    slots = no_writes seed lease_slots;
+    counts = no_counts;
+  }
 
 -- When each refusal to open a lane comes, over a device of this many pages: there is no slot; else those of a store.
 abbrev pub RefusesLane : ℕ → Config → ℕ → ℕ → OpenLaneFault → Type 0

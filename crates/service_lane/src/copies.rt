@@ -1,5 +1,5 @@
 // Copies in memory of objects on flash.
-ghost use Rattle.std.specs.Prelude.{◌≡◌, ◌≤◌, ◌×◌, None, IfOk, OnNone, IsSome, option_map, true, false};
+ghost use Rattle.std.specs.Prelude.{◌≡◌, ◌≤◌, None, IfOk, IsSome, option_map, true, false};
 ghost use Rattle.record_pages.specs.Expiry.{timed};
 ghost use Rattle.memory_cache.specs.MemoryList.{after_get, after_put, after_remove};
 ghost use Rattle.service_lane.specs.Copies.{no_copies, with_held, live_copy, is_copy_due, hit_counted};
@@ -49,16 +49,11 @@ impl Copies {
 
     /// The live copy of a key: its value goes into the buffer, and it comes to the front. When it expires; none if there is no
     /// live one, and then nothing changes.
-    pub(crate) fn recall(
-        &mut self,
-        key: &[u8],
-        moment: u64,
-        found: &mut ValueBuffer,
-    ) -> Option<u64>
+    pub(crate) fn recall(&mut self, key: &[u8], moment: u64, found: &mut ValueBuffer) -> Option<u64>
         ensures copy { live_copy key.now moment self.old ≡ option_map (timed found.new) result }
         ensures raised { IsSome result → self.new ≡ with_held (after_get key.now) self.old }
-        ensures stays { OnNone result (self.new ≡ self.old) }
-        ensures untouched { OnNone result (found.new ≡ found.old) }
+        ensures stays { (result ≡ None) → self.new ≡ self.old }
+        ensures untouched { (result ≡ None) → found.new ≡ found.old }
     {
         let expires = self.lend(key, moment, found)?;
         self.held.raise(key);
@@ -68,7 +63,7 @@ impl Copies {
     // The same, whose copy stays in its place.
     fn lend(&self, key: &[u8], moment: u64, found: &mut ValueBuffer) -> Option<u64>
         ensures copy { live_copy key.now moment self.now ≡ option_map (timed found.new) result }
-        ensures untouched { OnNone result (found.new ≡ found.old) }
+        ensures untouched { (result ≡ None) → found.new ≡ found.old }
     {
         match self.held.peek_bytes(key) {
             Some(timed) if timed.is_live(moment) => {

@@ -1,5 +1,5 @@
 // A store with copies in memory of objects on flash.
-ghost use Rattle.std.specs.Prelude.{◌≡◌, ◌≤◌, ◌×◌, ◌++◌, ◌∷◌, [], length, None, Some, Ok, IfOk, IfSome, OnOk, OnErr, OnNone, IsTrue, option_map};
+ghost use Rattle.std.specs.Prelude.{◌≡◌, ◌≤◌, ◌++◌, ◌∷◌, [], length, None, Some, Ok, IfOk, IfSome, OnOk, OnErr, IsTrue, option_map};
 ghost use Rattle.klog.specs.Usage.{usage_of};
 ghost use Rattle.record_pages.specs.Asked.{layout_pages};
 ghost use Rattle.record_pages.specs.Expiry.{timed};
@@ -11,6 +11,7 @@ ghost use Rattle.mover.specs.Get.{answer_of};
 ghost use Rattle.mover.specs.Store.{opening_with};
 ghost use Rattle.trace_file.specs.declared.act.Act.{Act};
 ghost use Rattle.certificate_checker.specs.Current.{current};
+ghost use Rattle.certificate_checker.specs.Latest.{IsLive};
 ghost use Rattle.deeds.specs.Sound.{act_of};
 ghost use Rattle.service_lane.specs.Asked.{IsLiveHit, IsMiss, TellsExpiry};
 ghost use Rattle.service_lane.specs.Copies.{GetsCopied, CopyAnswers, HitLeaves, copies_for, copy_gone, copy_in};
@@ -140,10 +141,12 @@ impl<D: PageDevice<PAGE>, const PAGE: usize> CopyStore<D, PAGE> {
             CopyAnswers key.now moment (Answer.Hit found.new Tier.Set) self.old self.new) }
         ensures deeds { IfSome result (λ expires. self.new.deeds ≡ self.old.deeds
             ++ record { key = key.now; act = Act.Hit found.new moment } ∷ []) }
+        ensures live { IfSome result (λ expires. IsTrue (D.honest self.old.store.device)
+            → IsLive self.old.deeds key.now found.new moment) }
         ensures current { IfSome result (λ expires. IsTrue (D.honest self.old.store.device)
             → current self.old.deeds key.now ≡ Some (timed found.new expires)) }
-        ensures stays { OnNone result (self.new ≡ self.old) }
-        ensures untouched { OnNone result (found.new ≡ found.old) }
+        ensures stays { (result ≡ None) → self.new ≡ self.old }
+        ensures untouched { (result ≡ None) → found.new ≡ found.old }
     {
         found_is_held();
         let Some(copies) = &mut self.copies else {

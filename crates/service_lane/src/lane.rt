@@ -1,5 +1,5 @@
 // A lane that serves.
-ghost use Rattle.std.specs.Prelude.{◌≡◌, ◌≤◌, [], length, IfOk, OnOk, IfErr};
+ghost use Rattle.std.specs.Prelude.{◌≡◌, ◌≤◌, [], length, None, IfOk, OnOk, IfErr};
 ghost use Rattle.klog.specs.Usage.{usage_of};
 ghost use Rattle.record_pages.specs.Asked.{HasNumbersOf, layout_pages};
 ghost use Rattle.record_pages.specs.Sizes.{IsPageSize};
@@ -38,7 +38,8 @@ pub struct ServiceLane<D: PageDevice<PAGE>, const PAGE: usize> {
 impl<D: PageDevice<PAGE>, const PAGE: usize> Model for ServiceLane<D, PAGE> {
     ghost use Rattle.std.specs.Coded.{codes};
     ghost use Rattle.kset.specs.Sets.{sets_code};
-    ghost use Rattle.service_lane.specs.Leases.{AreCounted};
+    ghost use Rattle.service_lane.specs.Counters.{no_counts};
+    ghost use Rattle.service_lane.specs.Leases.{AreCounted, no_writes};
     ghost use Rattle.service_lane.specs.Serving.{Serving};
 
     ghost Value = { Serving D };
@@ -58,9 +59,10 @@ impl<D: PageDevice<PAGE>, const PAGE: usize> Model for ServiceLane<D, PAGE> {
 
 impl<D: PageDevice<PAGE>, const PAGE: usize> ServiceLane<D, PAGE> {
     ghost use Rattle.service_lane.specs.Asked.{IsServed};
-    ghost use Rattle.service_lane.specs.Leases.{AreCounted};
+    ghost use Rattle.service_lane.specs.Counters.{no_counts};
+    ghost use Rattle.service_lane.specs.Leases.{AreCounted, no_writes};
     ghost use Rattle.service_lane.specs.Copies.{AreCopies};
-    ghost use Rattle.service_lane.specs.Serving.{asked_of, new_serving, RefusesLane};
+    ghost use Rattle.service_lane.specs.Serving.{asked_of, opening_to_serve, OpensServing, RefusesLane};
 
     /// An empty lane with this many slots for leases, over a device. Its refusals are tested in the order of
     /// `OpenLaneFault`, those of the store in that of `Store::open`, and the device is dropped with each. Its sets have room
@@ -76,7 +78,13 @@ impl<D: PageDevice<PAGE>, const PAGE: usize> ServiceLane<D, PAGE> {
         seed: RandomSeed,
     ) -> Result<Self, OpenLaneFault>
         ensures opening { IfOk result (λ opened. HasNumbersOf opened.store.layout config.now
-            × (opened ≡ new_serving opened.store.layout lease_slots 0 seed device)) }
+            × (opened ≡ record {
+              store = opening_to_serve opened.store.layout device;
+              deeds = [];
+              copies = None;
+              slots = no_writes seed lease_slots;
+              counts = no_counts;
+            })) }
         ensures serves { OnOk result
             ((1 ≤ lease_slots) × CanServe PAGE config.now (D.page_count device)) }
         ensures refused { IfErr result
@@ -96,7 +104,7 @@ impl<D: PageDevice<PAGE>, const PAGE: usize> ServiceLane<D, PAGE> {
     /// the device is dropped. Nothing is tested again.
     ///
     /// If `bring_back` is 0 it is as `open` makes it. If not, objects come back into memory: of so many hits on flash one has its
-    /// object copied. Half of the objects that the layout has in memory are then copies, and one that is pushed out is dropped.
+    /// object copied. Of each four objects that the layout has in memory three are then copies, and one that is pushed out is dropped.
     pub fn with_layout(
         alloc: Global,
         layout: &Layout,
@@ -108,7 +116,7 @@ impl<D: PageDevice<PAGE>, const PAGE: usize> ServiceLane<D, PAGE> {
         requires page_size { IsPageSize PAGE }
         requires slots { 1 ≤ lease_slots }
         requires room { layout_pages layout.now ≤ D.page_count device }
-        ensures { IfOk result (λ lane. lane ≡ new_serving layout.now lease_slots bring_back seed device) }
+        ensures { IfOk result (OpensServing layout.now lease_slots bring_back seed device) }
     {
         let strikes = strikes_of(layout.sets);
         let copies = copies_of(bring_back, layout.memory);
@@ -176,7 +184,7 @@ impl<D: PageDevice<PAGE>, const PAGE: usize> ServiceLane<D, PAGE> {
 }
 
 ghost use Rattle.std.specs.Prelude.{◌<◌};
-ghost use Rattle.service_lane.specs.Copies.{copies_of, without_copies};
+ghost use Rattle.service_lane.specs.Copies.{copies_of, numbers_without};
 
 // How many objects in memory are copies, of so many.
 fn copies_of(bring_back: u32, objects: u32) -> u32
@@ -187,16 +195,22 @@ fn copies_of(bring_back: u32, objects: u32) -> u32
     if bring_back == 0 {
         return 0;
     }
-    objects / 2
+    objects / 4 * 3
 }
 
 // The layout with so many objects less in memory.
 fn without_copies(layout: &Layout, copies: u32) -> Layout
     requires { copies < layout.now.memory }
-    ensures { result ≡ without_copies layout.now copies }
+    ensures { HasNumbersOf result (numbers_without layout.now copies) }
 {
     Layout {
+        lanes: layout.lanes,
+        sets: layout.sets,
         memory: layout.memory - copies,
-        ..*layout
+        segments: layout.segments,
+        segment_pages: layout.segment_pages,
+        entries: layout.entries,
+        threshold: layout.threshold,
+        admit: layout.admit,
     }
 }

@@ -178,8 +178,8 @@ impl<D: PageDevice<PAGE>, const PAGE: usize> ServiceLane<D, PAGE> {
     }
 }
 
-use crate::slots::Slots;
 use crate::copy_store::CopyStore;
+use crate::slots::Slots;
 
 // The bytes of an object.
 fn bytes_of(key: &Key, value: &Value) -> u64

@@ -16,7 +16,7 @@ returns-in-Some-Flush-clause-upkept g c =
     let i = c.self.inside in
     let new = c.flush_step.new.self in
     let answer = c.flush_step.result in
-    let old : Serving g.row.D.Denot = record { store = i.asked.store; deeds = i.asked.deeds; slots = i.slots; counts = i.counts } in
+    let old : Serving g.row.D.Denot = record { store = i.asked.store; deeds = i.asked.deeds; copies = i.asked.copies; slots = i.slots; counts = i.counts } in
     let is_due : due_in old ≡ Some due.Flush = ap due_of (ap (λ (s : Serving g.row.D.Denot). usage_of s.store.log) c.self.view_is ∙ sym c.log_usage.ensures) ∙ sym c.what_is_due.ensures ∙ c.in-Some-Flush.is ∙ ap Some c.in-Some-Flush.field-0-is in
     let done : Flushes d.honest d.failures d.held old answer new =
     record {
@@ -34,7 +34,7 @@ returns-in-Ok-clause-upkept g c =
     let new = c.move_whole.new.self in
     let answer = c.in-Ok.moved in
     let plan_of = g.P.EvictionPolicy.plan_of c.args.policy.now in
-    let old : Serving g.row.D.Denot = record { store = i.asked.store; deeds = i.asked.deeds; slots = i.slots; counts = i.counts } in
+    let old : Serving g.row.D.Denot = record { store = i.asked.store; deeds = i.asked.deeds; copies = i.asked.copies; slots = i.slots; counts = i.counts } in
     let is_due : due_in old ≡ Some due.Move = ap due_of (ap (λ (s : Serving g.row.D.Denot). usage_of s.store.log) c.self.view_is ∙ sym c.log_usage.ensures) ∙ sym c.what_is_due.ensures ∙ c.in-Some-Move.is ∙ ap Some c.in-Some-Move.field-0-is in
     let done : Moves g.row.PAGE d.honest d.failures d.held plan_of old answer new =
     record {
@@ -55,7 +55,7 @@ returns-in-Err-clause-upkept g c =
     let i = c.self.inside in
     let new = c.move_whole.new.self in
     let plan_of = g.P.EvictionPolicy.plan_of c.args.policy.now in
-    let old : Serving g.row.D.Denot = record { store = i.asked.store; deeds = i.asked.deeds; slots = i.slots; counts = i.counts } in
+    let old : Serving g.row.D.Denot = record { store = i.asked.store; deeds = i.asked.deeds; copies = i.asked.copies; slots = i.slots; counts = i.counts } in
     let is_due : due_in old ≡ Some due.Move = ap due_of (ap (λ (s : Serving g.row.D.Denot). usage_of s.store.log) c.self.view_is ∙ sym c.log_usage.ensures) ∙ sym c.what_is_due.ensures ∙ c.in-Some-Move.is ∙ ap Some c.in-Some-Move.field-0-is in
     let done : LacksMemory g.row.PAGE d.honest d.failures d.held plan_of old new =
     record {

@@ -30,7 +30,7 @@ pub returns-clause-once : goal.returns-clause-once
 returns-clause-once g c =
     let between = c.upkeep_step-step.new.self in
     let i = c.self.inside in
-    let v : Serving g.row.D.Denot = record { store = i.asked.store; deeds = i.asked.deeds; slots = i.slots; counts = i.counts } in
+    let v : Serving g.row.D.Denot = record { store = i.asked.store; deeds = i.asked.deeds; copies = i.asked.copies; slots = i.slots; counts = i.counts } in
     record {
       did = c.upkeep_step-step.result.did;
       between = between;

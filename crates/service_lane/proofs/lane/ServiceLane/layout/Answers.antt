@@ -2,13 +2,17 @@
 use Rattle.std.proofs.Common.{subst}
 use Rattle.service_lane.specs.Asked.{IsServed}
 use Rattle.service_lane.specs.Leases.{AreCounted}
-use Rattle.service_lane.specs.Serving.{Serving}
+use Rattle.service_lane.specs.Copies.{AreCopies}
+use Rattle.service_lane.specs.Serving.{Serving, asked_of}
 use Rattle.service_lane.proofs.lane.ServiceLane.layout.Goals as goal
 
 pub returns-clause-served : goal.returns-clause-served
 returns-clause-served g c =
     let d = g.D.PageDevice in
     subst (λ (s : Serving g.row.D.Denot). IsServed d.honest d.held (record { store = s.store; deeds = s.deeds })) c.self.view_is c.layout.ensures.served
+
+pub returns-clause-copied : goal.returns-clause-copied
+returns-clause-copied g c = subst (λ (s : Serving g.row.D.Denot). AreCopies g.D.PageDevice.honest (asked_of s)) c.self.view_is c.layout.ensures.copied
 
 pub returns-clause-counted : goal.returns-clause-counted
 returns-clause-counted g c = subst (λ (s : Serving g.row.D.Denot). AreCounted s.deeds s.slots) c.self.view_is c.self.invariant

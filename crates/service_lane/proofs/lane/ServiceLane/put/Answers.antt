@@ -3,7 +3,7 @@ use Rattle.std.proofs.Common.{◌∙◌, refl, ap, subst}
 use Rattle.record_pages.specs.Expiry.{timed}
 use Rattle.memory_cache.specs.declared.pair.Pair.{Pair}
 use Rattle.trace_file.specs.declared.act.Act.TheVariants.{Put}
-use Rattle.service_lane.specs.Asked.{Asked}
+use Rattle.service_lane.specs.Copies.{CopyAsked}
 use Rattle.service_lane.specs.declared.counter.Counter.TheVariants as counter
 use Rattle.service_lane.specs.Counters.{with_more, with_one_if}
 use Rattle.service_lane.specs.Counting.{bytes_of, counter_of_pushed}
@@ -15,7 +15,7 @@ pub invariant_of-self : goal.invariant_of-self
 invariant_of-self g c = counted_write c.self.inside.asked.deeds c.put_counted.new.asked.deeds (record { key = c.args.key; act = Put c.args.value c.args.expires }) c.self.inside.slots c.put_counted.new.slots c.in-Ok.ensures.deeds refl c.in-Ok.ensures.counted c.self.invariant
 
 pub invariant_of-self-in-Err : goal.invariant_of-self-in-Err
-invariant_of-self-in-Err g c = counted_kept c.self.inside.asked.deeds c.put_counted.new.asked.deeds c.self.inside.slots c.put_counted.new.slots (ap (λ (s : Asked g.row.D.Denot). s.deeds) c.in-Err.ensures.asked_kept) c.in-Err.ensures.slots_kept c.self.invariant
+invariant_of-self-in-Err g c = counted_kept c.self.inside.asked.deeds c.put_counted.new.asked.deeds c.self.inside.slots c.put_counted.new.slots (ap (λ (s : CopyAsked g.row.D.Denot). s.deeds) c.in-Err.ensures.asked_kept) c.in-Err.ensures.slots_kept c.self.invariant
 
 pub returns-in-Ok-clause-stored : goal.returns-in-Ok-clause-stored
 returns-in-Ok-clause-stored g c =
@@ -24,12 +24,13 @@ returns-in-Ok-clause-stored g c =
     let p : Pair = record { key = a.key; value = timed a.value a.expires } in
     let counts = c.self.inside.counts in
     let asked = c.put_counted.new.asked in
-    let old : Serving g.row.D.Denot = record { store = c.self.inside.asked.store; deeds = c.self.inside.asked.deeds; slots = c.self.inside.slots; counts = counts } in
-    let new : Serving g.row.D.Denot = record { store = asked.store; deeds = asked.deeds; slots = c.put_counted.new.slots; counts = c.count_if.new.self } in
+    let old : Serving g.row.D.Denot = record { store = c.self.inside.asked.store; deeds = c.self.inside.asked.deeds; copies = c.self.inside.asked.copies; slots = c.self.inside.slots; counts = counts } in
+    let new : Serving g.row.D.Denot = record { store = asked.store; deeds = asked.deeds; copies = asked.copies; slots = c.put_counted.new.slots; counts = c.count_if.new.self } in
     let put : PutsStore g.row.PAGE d.held p a.word c.in-Ok.pushed old new =
     record {
       puts = c.in-Ok.ensures.puts;
       deeds = c.in-Ok.ensures.deeds;
+      copies = c.in-Ok.ensures.copies;
       slots = c.in-Ok.ensures.counted;
       counts =
           c.count_if.ensures ∙ ap (λ k. with_one_if k c.add.new.self) c.of_pushed.ensures
