@@ -95,6 +95,8 @@ static const word_row rows[] = {
      "the fewest objects that move to a set together, 1 to 32; worked out from --object-bytes if not given"},
     {"--admit", "PERCENT", OF_CACHE, BOTH, A_NUMBER, AT(admit), 0, 100, "admit",
      "how many of 100 objects that leave memory go to flash; 100 if not given"},
+    {"--bring-back", "N", OF_CACHE, THE_DRIVER, A_COUNT32, AT(cache.bring_back), 0, UINT32_MAX, "bring_back",
+     "of N hits on flash one has its object brought back into memory, 0 for none; 8 if not given"},
     {"--upkeep-threads", "N", OF_CACHE, THE_DRIVER, A_COUNT32, AT(cache.upkeep_threads), 0, 16, "upkeep_threads",
      "threads of the cache's own, 0 to 16; 1 if not given"},
     {"--lease-slots", "N", OF_CACHE, THE_DRIVER, A_COUNT32, AT(cache.lease_slots), 1, 1048576, "lease_slots",

@@ -50,6 +50,7 @@ static void json_cache(json *to, const kangaroo_options *of, const kangaroo_size
     json_count(to, "upkeep_threads", of->upkeep_threads);
     json_number(to, "admit_percent", of->admit * 100 / 65536.0);
     json_count(to, "threshold", of->threshold);
+    json_count(to, "bring_back", of->bring_back);
     json_count(to, "lease_slots", of->lease_slots);
     json_count(to, "shards", of->shards);
     json_count(to, "lanes", of->lanes);
@@ -213,8 +214,8 @@ static void print_heading(const report *of) {
         printf("server %s, %u requests in flight a connection\n", options->server, options->pipeline);
     else
         printf("cache of %" PRIu64
-               " bytes of files in %u lanes, threshold %u, admitting %.4g of 100, %u upkeep threads\n",
-               of->sizes.file_bytes, cache->shards * cache->lanes, cache->threshold, cache->admit * 100 / 65536.0,
+               " bytes of files in %u lanes, threshold %u, bringing back %u, admitting %.4g of 100, %u upkeep threads\n",
+               of->sizes.file_bytes, cache->shards * cache->lanes, cache->threshold, cache->bring_back, cache->admit * 100 / 65536.0,
                cache->upkeep_threads);
     if (options->replay != NULL) printf("replay of %s", options->replay);
     else printf("%" PRIu64 " keys of %u bytes, %s, values %s", options->keys, options->key_bytes, keys, values);

@@ -25,7 +25,7 @@ typedef struct served {
 } served;
 
 #define AT(field) offsetof(settings, field)
-enum { NO_LETTER = 256, FOLDER = NO_LETTER, FLASH, OBJECT_BYTES, ADMIT, THRESHOLD, UPKEEP_THREADS, SPARSE };
+enum { NO_LETTER = 256, FOLDER = NO_LETTER, FLASH, OBJECT_BYTES, ADMIT, THRESHOLD, BRING_BACK, UPKEEP_THREADS, SPARSE };
 static const served options_served[] = {
     {"listen", 'l', KIND_TEXT, AT(listen), 0, 0, "HOST[:PORT],..", "addresses (127.0.0.1); 0.0.0.0 is every IPv4 one"},
     {"port", 'p', KIND_NUMBER, AT(port), 1, 65535, "N", "TCP port (11211)"},
@@ -42,6 +42,8 @@ static const served options_served[] = {
     {"admit", ADMIT, KIND_NUMBER, AT(admit), 0, 65536, "N", "of 65,536 objects that leave memory, N go to flash (65536)"},
     {"threshold", THRESHOLD, KIND_NUMBER, AT(threshold), 0, 32, "N",
      "fewest objects that move to a set together; 0: by --object-bytes (0)"},
+    {"bring-back", BRING_BACK, KIND_NUMBER, AT(bring_back), 0, UINT32_MAX, "N",
+     "of N hits on flash one comes back into memory; 0: none (8)"},
     {"upkeep-threads", UPKEEP_THREADS, KIND_NUMBER, AT(upkeep_threads), 0, 16, "N", "threads that write to flash (1)"},
     {"sparse", SPARSE, KIND_FLAG, AT(is_sparse), 0, 0, NULL, "do not reserve the files' blocks"},
     {"user", 'u', KIND_TEXT, AT(user), 0, 0, "NAME", "whom to become, if started by root"},
@@ -242,7 +244,7 @@ void read_words(int count, char **words, settings *to) {
     known all;
     know_all(&all);
     *to = (settings){.folder = ".", .socket_mode = UINT64_MAX, .backlog = 1024, .threads = 4, .conns = 1024, .memory_mib = 64,
-                     .flash_bytes = (uint64_t)1 << 30, .object_bytes = 100, .admit = 65536, .upkeep_threads = 1};
+                     .flash_bytes = (uint64_t)1 << 30, .object_bytes = 100, .admit = 65536, .bring_back = 8, .upkeep_threads = 1};
     opterr = 0;
     for (int letter; (letter = getopt_long(count, words, all.letters, all.longs, NULL)) != -1;) {
         const char *word = words[optind - 1];
@@ -272,6 +274,7 @@ static void fill_options(const settings *from, kangaroo_options *to) {
     to->upkeep_threads = (uint32_t)from->upkeep_threads;
     to->admit = (uint32_t)from->admit;
     to->threshold = (uint32_t)from->threshold;
+    to->bring_back = (uint32_t)from->bring_back;
 }
 
 static bool is_enough(const settings *from, uint64_t memory_mib) {

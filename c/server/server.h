@@ -53,7 +53,7 @@ void tell_systemd(const char *state);
 typedef struct settings {
     const char *listen, *socket_path, *folder, *pid_file, *user;
     uint64_t port, socket_mode, backlog, threads, conns, memory_mib, idle_seconds;
-    uint64_t flash_bytes, object_bytes, admit, threshold, upkeep_threads;
+    uint64_t flash_bytes, object_bytes, admit, threshold, bring_back, upkeep_threads;
     uint64_t verbosity, is_daemon, is_sparse, no_flush, may_shut_down; /* flags: how often they were given */
 } settings;
 

@@ -209,6 +209,7 @@ static void of_settings(lines *to, const server *of) {
     number_line(to, "object_bytes", is->object_bytes);
     number_line(to, "admit", of->options.admit);
     number_line(to, "threshold", of->options.threshold);
+    number_line(to, "bring_back", of->options.bring_back);
     number_line(to, "upkeep_threads", is->upkeep_threads);
     number_line(to, "lanes", (uint64_t)of->options.shards * of->options.lanes);
 }

@@ -45,6 +45,13 @@ module _ {D : Type 0} (size : ℕ) (honest : D → Bool) (failures : D → ℕ) 
     upkeeps_keep old (upkept.Moved answer) new step = step.moves.honesty
     upkeeps_keep old upkept.OutOfMemory new step = step.moves.honesty
 
+    -- a step of upkeep adds no deed
+    pub upkeeps_deeds : (old : Serving D) (did : Upkept) (new : Serving D) → Upkeeps size honest failures held plan_of old did new → new.deeds ≡ old.deeds
+    upkeeps_deeds old upkept.Idle new step = ap (λ (s : Serving D). s.deeds) step.1
+    upkeeps_deeds old (upkept.Flushed answer) new step = ap (λ (s : Serving D). s.deeds) step.rest
+    upkeeps_deeds old (upkept.Moved answer) new step = ap (λ (s : Serving D). s.deeds) step.rest
+    upkeeps_deeds old upkept.OutOfMemory new step = ap (λ (s : Serving D). s.deeds) step.rest
+
     once_keeps : (old : Serving D) (asked : Bool) (new : Serving D) → HelpsOnce size honest failures held plan_of old asked new → IsAsHonest old new
     once_keeps old asked new step = ap (λ (s : Serving D). honest s.store.device) step.counted ∙ upkeeps_keep old step.did step.between step.upkept
 

@@ -1,5 +1,5 @@
 -- What is known of a key that was answered, and of a put that was answered or refused.
-use Rattle.std.proofs.Common.{◌≡◌, ◌<◌, ◌↔◌, ℕ, List, [], ◌∷◌, length, Result, Ok, Err, refl, ap, sym, ◌∙◌, inl, inr, arith}
+use Rattle.std.proofs.Common.{◌≡◌, ◌<◌, ◌↔◌, ℕ, List, [], ◌∷◌, length, Option, Result, Ok, Err, refl, ap, sym, ◌∙◌, inl, inr, arith}
 use Rattle.std.proofs.lemmas.Bool.{cases_lt}
 use Rattle.record_pages.specs.Bounded.{IsKey}
 use Rattle.record_pages.specs.Sizes.{object_size, room}
@@ -16,6 +16,8 @@ use Rattle.service_cache.specs.declared.seat_fault.SeatFault.{SeatFault}
 use Rattle.service_cache.specs.declared.seat_fault.SeatFault.TheVariants as refusals
 use Rattle.service_cache.specs.declared.seat_fault.SeatPutFault.{SeatPutFault}
 use Rattle.service_cache.specs.Refusals.{RefusesPut, RefusesRemoval}
+use Rattle.certificate_checker.specs.Deeds.{Deed}
+use Rattle.service_cache.specs.Seated.{Seated, IsForgotten, RemovalLeaves}
 use Rattle.service_cache.specs.declared.seat_fault.SeatPutFault.TheVariants as put_refusals
 
 -- what is answered is a key's
@@ -56,3 +58,18 @@ entry_same one other is = cc
 -- what the book refused, it refused for want of room exactly if the lane has none
 pub full_exactly : {X Y : Type 0} (r : Result X SeatFault) (fault : EntryFault) (key : List ℕ) (none : Type 0) → r ≡ Err (refusals.Book fault) → (◌≡◌ {A = Result Y EntryFault} (Err fault) (Err entries.Full)) ↔ none → IsKey key → (r ≡ Err (refusals.Book entries.Full)) ↔ (IsKey key × none)
 full_exactly {X} {Y} r fault key none is full has = (λ e. (has, full.0 (ap Err (book_same {X = X} fault entries.Full (sym is ∙ e)))), λ both. is ∙ ap (λ (f : EntryFault). Err (refusals.Book f)) (entry_same {X = Y} fault entries.Full (full.1 both.1)))
+
+put_book_same : {X : Type 0} (one other : EntryFault) → ◌≡◌ {A = Result X SeatPutFault} (Err (put_refusals.Book one)) (Err (put_refusals.Book other)) → one ≡ other
+put_book_same one other is = cc
+
+-- so it is of a put
+pub put_full_exactly : {X Y : Type 0} (r : Result X SeatPutFault) (fault : EntryFault) (none : Type 0) → r ≡ Err (put_refusals.Book fault) → (◌≡◌ {A = Result Y EntryFault} (Err fault) (Err entries.Full)) ↔ none → (r ≡ Err (put_refusals.Book entries.Full)) ↔ none
+put_full_exactly {X} {Y} r fault none is full = (λ e. full.0 (ap Err (put_book_same {X = X} fault entries.Full (sym is ∙ e))), λ no. is ∙ ap (λ (f : EntryFault). Err (put_refusals.Book f)) (entry_same {X = Y} fault entries.Full (full.1 no)))
+
+-- what was entered had room
+pub entered_exactly : {X Y : Type 0} (x : X) (y : Y) (none : Type 0) → (◌≡◌ {A = Result Y EntryFault} (Ok y) (Err entries.Full)) ↔ none → (◌≡◌ {A = Result X SeatPutFault} (Ok x) (Err (put_refusals.Book entries.Full))) ↔ none
+entered_exactly x y none full = (λ e. absurd (cc), λ no. absurd (let is = full.1 no in cc))
+
+-- what a removal leaves that the book refused
+pub removal_left : {X D : Type 0} (held : D → ℕ → Option (List ℕ)) (key : List ℕ) (r : Result X SeatFault) (fault : EntryFault) (old : Seated D) (seat_old : List Deed) (new : Seated D) (seat_new : List Deed) → r ≡ Err (refusals.Book fault) → IsForgotten held key old seat_old new seat_new → IfErr r (λ f. RemovalLeaves held key f old seat_old new seat_new)
+removal_left held key r fault old seat_old new seat_new is forgotten = rw is forgotten

@@ -155,7 +155,8 @@ impl<
             return Err(OpenServiceFault::DeviceTooSmall);
         }
         let start = book.seat();
-        let Ok(lanes) = lanes_over(alloc, layout, lease_slots, bring_back, devices, seed, book) else {
+        let Ok(lanes) = lanes_over(alloc, layout, lease_slots, bring_back, devices, seed, book)
+        else {
             return Err(OpenServiceFault::OutOfMemory);
         };
         Ok(ServiceCache {

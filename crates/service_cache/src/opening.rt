@@ -48,7 +48,15 @@ pub(crate) fn lanes_over<D: PageDevice<PAGE>, const PAGE: usize, L: KeyLanes, J:
         let Some(device) = devices.pop_front() else {
             unreachable!()
         };
-        let guarded = guarded_over(alloc, layout, lease_slots, bring_back, device, seed, book.register())?;
+        let guarded = guarded_over(
+            alloc,
+            layout,
+            lease_slots,
+            bring_back,
+            device,
+            seed,
+            book.register(),
+        )?;
         lanes.push(Mutex::new(CachePadded::new(guarded)))?;
     }
     Ok(lanes)
@@ -78,7 +86,14 @@ fn guarded_over<D: PageDevice<PAGE>, const PAGE: usize, L: KeyLanes, J: BookName
     let number = register.number() as u32;
     let counted = CountedPages::new(Boxed::new(alloc, device)?);
     let lane_seed = seed.derive(number);
-    let lane = ServiceLane::with_layout(alloc, layout, lease_slots, bring_back, counted, lane_seed)?;
+    let lane = ServiceLane::with_layout(
+        alloc,
+        layout,
+        lease_slots,
+        bring_back,
+        counted,
+        lane_seed,
+    )?;
     let lane = SeatedLane::new(lane, register);
     Ok(Guarded::new(lane, words_of(seed, number)))
 }

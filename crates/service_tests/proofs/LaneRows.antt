@@ -27,7 +27,14 @@ use Rattle.service_lane.specs.Asked.{IsLiveHit}
 use Rattle.service_lane.specs.Leases.{LeaseSlots, hash_by, slot_of, slot_for, writes_for, with_write, one_more, most_writes, HoldsLease}
 use Rattle.service_lane.specs.Serving.{Serving}
 use Rattle.klog.specs.declared.flushed.Flushed.{Flushed}
-use Rattle.service_lane.specs.Counting.{counts_answer}
+use Rattle.service_lane.specs.Counters.{number, place_of, with_one_if}
+use Rattle.service_lane.specs.Counting.{counts_answer, counts_get, counter_of_copied}
+use Rattle.service_lane.specs.declared.copied.Copied.{Copied}
+use Rattle.service_lane.specs.declared.copied.Copied.TheVariants.{Nothing, Answered, Made}
+use Rattle.service_lane.specs.declared.counter.Counter.{Counter}
+use Rattle.service_lane.specs.declared.counter.Counter.TheVariants as counter
+use Rattle.service_lane.specs.declared.counts.Counts.{Counts}
+use Rattle.service_lane.proofs.public_laws.Numbers.{more_other}
 use Rattle.service_lane.specs.Upkeep.{Flushes, IsPageDone, Upkeeps}
 use Rattle.service_lane.specs.declared.upkept.Upkept.{Upkept}
 use Rattle.service_lane.specs.declared.upkept.Upkept.TheVariants as upkept
@@ -100,9 +107,16 @@ lease_ended slots after key writes some leased written holds =
 
 -- ---- counters and upkeep
 
--- the counters after a hit in a tier
-pub counted_hit : {D : Type 0} (old new : Serving D) (found : List ℕ) (seen : AnswerKind) (tier : Tier) (told : ℕ) → seen ≡ Hit tier told → new.counts ≡ counts_answer (answer_of seen found) old.counts → new.counts ≡ counts_answer (answer_of (Hit tier told) found) old.counts
-counted_hit old new found seen tier told is counts = subst (λ s. new.counts ≡ counts_answer (answer_of s found) old.counts) is counts
+-- what a get did with copies is counted apart from the hits in tiers
+copied_apart : (copied : Copied) (c : Counter) (counts : Counts) → place_of c < 3 → number c (with_one_if (counter_of_copied copied) counts) ≡ number c counts
+copied_apart Nothing c counts few = refl
+copied_apart Answered c counts few = more_other 1 counter.CopyHits c counts (λ same. omega (arith, few, same))
+copied_apart Made c counts few = more_other 1 counter.BroughtBack c counts (λ same. omega (arith, few, same))
+
+-- the number of a tier's hits after a hit
+pub counted_hit : {D : Type 0} (old new : Serving D) (found : List ℕ) (seen : AnswerKind) (tier : Tier) (told : ℕ) (copied : Copied) (c : Counter) → place_of c < 3 → seen ≡ Hit tier told → new.counts ≡ counts_get copied (answer_of seen found) old.counts → number c new.counts ≡ number c (counts_answer (answer_of (Hit tier told) found) old.counts)
+counted_hit old new found seen tier told copied c few is counts =
+    ap (number c) (subst (λ s. new.counts ≡ counts_get copied (answer_of s found) old.counts) is counts) ∙ copied_apart copied c (counts_answer (answer_of (Hit tier told) found) old.counts) few
 
 -- a step that flushes has done a page
 pub page_done : {D : Type 0} (size : ℕ) (honest : D → Bool) (failures : D → ℕ) (held : D → ℕ → Option (List ℕ)) (plan_of : Job → List Choice) (old : Serving D) (did : Upkept) (new : Serving D) (answer : Flushed) → did ≡ upkept.Flushed answer → Upkeeps size honest failures held plan_of old did new → IsPageDone answer

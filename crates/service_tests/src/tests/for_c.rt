@@ -52,9 +52,14 @@ fn lane(alloc: Global, shape: &LaneShape, pages: u32) -> Result<Result<CLane, St
     }
 }
 
-// Makes these calls of a new lane: the number of the first that does not give what is written beside it, and the counters then.
-fn after(alloc: Global, steps: &[Step]) -> Result<(Option<usize>, Counters), Fail> {
-    let Ok(mut lane) = lane(alloc, &SHAPE, 3)? else {
+// Makes these calls of a new lane of a shape: the number of the first that does not give what is written beside it, and the counters
+// then.
+fn after(
+    alloc: Global,
+    shape: &LaneShape,
+    steps: &[Step],
+) -> Result<(Option<usize>, Counters), Fail> {
+    let Ok(mut lane) = lane(alloc, shape, 3)? else {
         return Err(Fail::new("no lane was opened"));
     };
     let stray = run(alloc, &mut lane, steps);
@@ -127,9 +132,15 @@ const MEMORY_OBJECTS_NOW: usize = 28;
 
 const LOG_OBJECTS_NOW: usize = 29;
 
+const SET_HITS: usize = 2;
+
+const COPY_HITS: usize = 31;
+
+const BROUGHT_BACK: usize = 32;
+
 #[test]
 fn each_status_comes_and_is_counted(rt: HostRuntime) -> Result<(), Fail> {
-    let (stray, counts) = after(rt.alloc(), &EACH_STATUS)?;
+    let (stray, counts) = after(rt.alloc(), &SHAPE, &EACH_STATUS)?;
     assert_eq!(rt; stray, None);
     assert_eq!(rt;
         (
@@ -183,7 +194,7 @@ const EACH_TIER: [Step; 12] = [
 
 #[test]
 fn what_leaves_memory_is_hit_in_the_log(rt: HostRuntime) -> Result<(), Fail> {
-    let (stray, counts) = after(rt.alloc(), &EACH_TIER)?;
+    let (stray, counts) = after(rt.alloc(), &SHAPE, &EACH_TIER)?;
     assert_eq!(rt; stray, None);
     assert_eq!(rt;
         (counts.numbers[MEMORY_HITS], counts.numbers[LOG_HITS]),
@@ -221,6 +232,46 @@ fn a_lane_opens_over_enough_pages_and_not_with_a_number_out_of_its_range(
         ..SHAPE
     };
     assert_eq!(rt; opened(alloc, &wide, 3)?, Status::WrongOptions);
+    Ok(())
+}
+
+// One object of the store in memory, and three copies: of two hits on flash the second has its object copied.
+const BRINGS_BACK: LaneShape = LaneShape {
+    memory: 4,
+    bring_back: 2,
+    ..SHAPE
+};
+
+const COMES_BACK: [Step; 20] = [
+    Step::Put(b"ax", b"1", 9, Status::Done),
+    Step::Put(b"bx", b"2", u64::MAX, Status::Done),
+    Step::Hit(b"ax", 8, b"1", 2),
+    Step::Hit(b"ax", 8, b"1", 2),
+    Step::Hit(b"ax", 8, b"1", 3),
+    Step::Miss(b"ax", 9, Status::Expired),
+    Step::Hit(b"ax", 8, b"1", 3),
+    Step::Put(b"ax", b"3", u64::MAX, Status::Done),
+    Step::Hit(b"ax", 0, b"3", 1),
+    Step::Hit(b"bx", 0, b"2", 2),
+    Step::Hit(b"bx", 0, b"2", 2),
+    Step::Hit(b"bx", 0, b"2", 3),
+    Step::Remove(b"bx", Status::Done),
+    Step::Miss(b"bx", 0, Status::Absent),
+    Step::Put(b"cx", b"4", u64::MAX, Status::Done),
+    Step::Hit(b"ax", 0, b"3", 2),
+    Step::Hit(b"ax", 0, b"3", 2),
+    Step::LeaseHit(0, b"ax"),
+    Step::Fill(0, b"ax", b"5", Status::Done),
+    Step::Hit(b"ax", 0, b"5", 1),
+];
+
+#[test]
+fn what_is_hit_on_flash_comes_back_until_it_is_written(rt: HostRuntime) -> Result<(), Fail> {
+    let (stray, counters) = after(rt.alloc(), &BRINGS_BACK, &COMES_BACK)?;
+    assert_eq!(rt; stray, None);
+    let numbers = &counters.numbers;
+    assert_eq!(rt; (numbers[COPY_HITS], numbers[BROUGHT_BACK]), (3, 3));
+    assert_eq!(rt; (numbers[MEMORY_HITS], numbers[LOG_HITS], numbers[SET_HITS]), (2, 6, 3));
     Ok(())
 }
 

@@ -1,11 +1,13 @@
-use Rattle.std.proofs.Common.{Ok, ◌≡◌, ℕ, List, [], ◌∷◌, ◌++◌, sym, ◌∙◌, ap, subst}
+use Rattle.std.proofs.Common.{Ok, Err, refl, ◌≡◌, ℕ, List, [], ◌∷◌, ◌++◌, sym, ◌∙◌, ap, subst}
 use Rattle.trace_file.specs.declared.act.Act.TheVariants.{Remove}
 use Rattle.certificate_checker.specs.Deeds.{Deed}
 use Rattle.service_lane.specs.Serving.{Removes}
 use Rattle.deed_book.specs.Registers.{Registered, EntersIn}
 use Rattle.service_cache.specs.Seated.{IsSeated, put_of}
 use Rattle.service_cache.proofs.Seating.{seated_put, seated_undone}
-use Rattle.service_cache.proofs.Refusing.{not_stale}
+use Rattle.service_cache.proofs.Refusing.{not_stale, put_full_exactly}
+use Rattle.service_lane.specs.declared.filled.Filled.{Filled}
+use Rattle.service_cache.specs.declared.seat_fault.SeatPutFault.TheVariants as put_refusals
 use Rattle.service_cache.proofs.lane.SeatedLane.fill.Goals as goal
 
 pub invariant_of-self : goal.invariant_of-self
@@ -52,3 +54,6 @@ returns-in-Err-clause-stale g c =
 
 pub returns-in_default-clause-room : goal.returns-in_default-clause-room
 returns-in_default-clause-room g c = rw (← c.self.view_is) (λ none. absurd (c.in_default.not-Err _ (c.in_default.is ∙ c.in_default.ensures.full.1 none)))
+
+pub returns-in-Err-clause-full : goal.returns-in-Err-clause-full
+returns-in-Err-clause-full g c = rw (← c.self.view_is) (put_full_exactly {X = Filled} (Err (put_refusals.Book c.in-Err.fault)) c.in-Err.fault _ refl c.in-Err.ensures.full).0

@@ -4,7 +4,7 @@ use Rattle.certificate_checker.specs.Deeds.{Deed}
 use Rattle.deed_book.specs.Registers.{Registered, EntersIn}
 use Rattle.service_cache.specs.Seated.{IsSeated, put_of}
 use Rattle.service_cache.proofs.Seating.{seated_put, seated_removed, seated_forgotten}
-use Rattle.service_cache.proofs.Refusing.{refused_put, refused_object}
+use Rattle.service_cache.proofs.Refusing.{refused_put, refused_object, put_full_exactly, entered_exactly}
 use Rattle.service_cache.proofs.lane.SeatedLane.put.Goals as goal
 
 pub invariant_of-self : goal.invariant_of-self
@@ -37,3 +37,10 @@ invariant_of-self-2 g c =
 pub returns-in_err-pushed-clause-cause : goal.returns-in_err-pushed-clause-cause
 returns-in_err-pushed-clause-cause g c =
     refused_object g.row.PAGE c.args.key c.args.value c.from_residual-in_err-pushed.result c.in_err-pushed.field-0.0 (search rules) (refused_put g.row.PAGE c.args.key c.args.value (Err c.in_err-pushed.field-0.0) c.in_err-pushed.field-0.0 refl c.in_err-pushed.ensures.large)
+
+pub returns-in_err-enter_or_remove-clause-full : goal.returns-in_err-enter_or_remove-clause-full
+returns-in_err-enter_or_remove-clause-full g c =
+    rw (← c.self.view_is) (put_full_exactly c.from_residual.result c.in_err-enter_or_remove.field-0.0 _ (search rules) c.in_err-enter_or_remove.ensures.full)
+
+pub returns-clause-full : goal.returns-clause-full
+returns-clause-full g c = rw (← c.self.view_is) (entered_exactly c.in_ok-pushed.pushed c.in_ok-enter_or_remove.field-0 _ c.in_ok-enter_or_remove.ensures.full)

@@ -2,9 +2,10 @@ use Rattle.std.proofs.Common.{rules, sym, subst}
 use Rattle.trace_file.specs.declared.act.Act.TheVariants.{Remove}
 use Rattle.certificate_checker.specs.Deeds.{Deed}
 use Rattle.deed_book.specs.Registers.{Registered, EntersIn}
-use Rattle.service_cache.specs.Seated.{IsSeated}
+use Rattle.std.specs.Prelude.{IfErr}
+use Rattle.service_cache.specs.Seated.{IsSeated, Seated, RemovalLeaves}
 use Rattle.service_cache.proofs.Seating.{seated_removed, seated_forgotten}
-use Rattle.service_cache.proofs.Refusing.{is_key, refused_key, full_exactly}
+use Rattle.service_cache.proofs.Refusing.{is_key, refused_key, full_exactly, removal_left}
 use Rattle.service_cache.proofs.lane.SeatedLane.remove.Goals as goal
 
 pub invariant_of-self-in_err-enter : goal.invariant_of-self-in_err-enter
@@ -32,3 +33,12 @@ returns-clause-answered g c = is_key c.in_ok-remove.field-0 c.args.key.now c.in_
 pub returns-in_err-enter-clause-full : goal.returns-in_err-enter-clause-full
 returns-in_err-enter-clause-full g c =
     rw (← c.self.view_is) (full_exactly c.from_residual-in_err-enter.result c.in_err-enter.field-0.0 c.args.key.now _ (search rules) c.in_err-enter.ensures.full (is_key c.in_ok-remove.field-0 c.args.key.now c.in_ok-remove.ensures.empty c.in_ok-remove.ensures.too_long))
+
+pub returns-in_err-enter-clause-refused : goal.returns-in_err-enter-clause-refused
+returns-in_err-enter-clause-refused g c =
+    let i = c.self.inside in
+    let held = g.D.PageDevice.held in
+    let old : Seated g.row.D.Denot = record { serving = i.lane; register = i.register } in
+    let new : Seated g.row.D.Denot = record { serving = c.remove.new.self; register = c.enter.new.self } in
+    let left = removal_left held c.args.key.now c.from_residual-in_err-enter.result c.in_err-enter.field-0.0 old c.args.seat.now new c.enter.new.seat (search rules) (c.in_ok-remove.ensures.removed, c.in_err-enter.ensures.refused.0, c.in_err-enter.ensures.refused.1) in
+    subst (λ (s : Seated g.row.D.Denot). IfErr c.from_residual-in_err-enter.result (λ f. RemovalLeaves held c.args.key.now f s c.args.seat.now new c.enter.new.seat)) c.self.view_is left

@@ -1,0 +1,12 @@
+-- A step of upkeep adds no deed, so the lane stays in its seat.
+use Rattle.std.proofs.Common.{List, sym, subst}
+use Rattle.certificate_checker.specs.Deeds.{Deed}
+use Rattle.service_cache.specs.Seated.{IsSeated}
+use Rattle.service_cache.proofs.Honesty.{upkeeps_deeds}
+use Rattle.service_cache.proofs.lane.SeatedLane.upkeep_step.Goals as goal
+
+pub invariant_of-self : goal.invariant_of-self
+invariant_of-self g c =
+    let d = g.D.PageDevice in
+    let step = c.upkeep_step in
+    subst (λ (ds : List Deed). IsSeated g.L.KeyLanes.lane_of c.self.inside.register ds) (sym (upkeeps_deeds g.row.PAGE d.honest d.failures d.held (g.P.EvictionPolicy.plan_of c.args.policy.now) c.self.inside.lane step.result.did step.new.self step.ensures.upkept)) c.self.invariant
