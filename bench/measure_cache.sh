@@ -41,6 +41,7 @@ quality() {
         cache "memory-$memory" $stream --memory "$memory"
         rivals "rivals-$memory" $stream --memory "$memory"
     done
+    for back in 0 1 4 8 16 32; do cache "bring-back-$back" $stream --memory 24M --bring-back "$back"; done
     for threshold in 1 3 4; do cache "threshold-$threshold" $stream --memory 24M --threshold "$threshold"; done
     for admit in 50 75 90; do cache "admit-$admit" $stream --memory 24M --admit "$admit"; done
     cache over-time $stream --memory 24M --series "$out/over-time.csv"

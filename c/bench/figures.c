@@ -53,6 +53,7 @@ figures figures_between(const snapshot *earlier, const snapshot *later, histogra
     figures made = {.seconds = (double)(later->at - earlier->at) / 1e9,
                     .flash_bytes = flash_bytes_of(later) - flash_bytes_of(earlier),
                     .pages_read = later->counters.pages_read - earlier->counters.pages_read,
+                    .copy_hits = later->counters.copy_hits - earlier->counters.copy_hits,
                     .own_memory = later->own_memory};
     for (int i = 0; i < COUNTS; i++) made.counts[i] = later->counts[i] - earlier->counts[i];
     for (int i = 0; i < LATENCY_ROWS; i++) {
@@ -76,6 +77,8 @@ double write_amplification_of(const figures *of) { return ratio(of->flash_bytes,
 
 double pages_read_a_get(const figures *of) { return ratio(of->pages_read, of->counts[GETS]); }
 
+double copies_share_of(const figures *of) { return ratio(of->copy_hits, of->counts[GETS]); }
+
 double operations_a_second(const figures *of) {
     return of->seconds > 0 ? (double)of->counts[OPERATIONS] / of->seconds : NAN;
 }
@@ -84,6 +87,7 @@ void json_figures(json *to, const figures *of) {
     json_number(to, "seconds", of->seconds);
     json_number(to, "operations_per_second", operations_a_second(of));
     for (int i = 0; i < COUNTS; i++) json_count(to, count_names[i], of->counts[i]);
+    json_count(to, "copy_hits", of->copy_hits);
     json_count(to, "hits", hits_of(of));
     json_number(to, "hit_ratio", hit_ratio_of(of));
     json_count(to, "flash_bytes_written", of->flash_bytes);

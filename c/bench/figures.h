@@ -27,6 +27,7 @@ typedef struct figures {
     uint64_t counts[COUNTS];
     uint64_t flash_bytes; /* written */
     uint64_t pages_read;
+    uint64_t copy_hits; /* of those in sets, by copies in memory */
     uint64_t own_memory; /* at the end */
     latency_figures latencies[LATENCY_ROWS];
 } figures;
@@ -49,6 +50,8 @@ double hit_ratio_of(const figures *of);
 /* Bytes written to flash by bytes stored; not a number if none were stored. */
 double write_amplification_of(const figures *of);
 double pages_read_a_get(const figures *of);
+/* Hits of copies by gets; not a number if there were no gets. */
+double copies_share_of(const figures *of);
 double operations_a_second(const figures *of);
 
 /* Writes a member with the figures, but the latencies. */

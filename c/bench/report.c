@@ -234,6 +234,7 @@ void print_text_report(const report *of) {
         print_parts(of, "  in memory", 4, in_memory);
         print_parts(of, "  in the log", 4, in_log);
         print_parts(of, "  in a set", 4, in_set);
+        print_parts(of, "    of them by copies", 4, copies_share_of);
     }
     print_parts(of, "bytes stored", 0, stored);
     print_parts(of, "bytes written to flash", 0, flash);

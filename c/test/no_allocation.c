@@ -13,6 +13,7 @@ int main(void) {
     kangaroo_options options = small_options();
     make_folder(folder);
     options.upkeep_threads = 0;
+    options.bring_back = 0;
     options.sets = 255;
     kangaroo_cache *cache = open_with(&options, folder);
     memset(value, 'v', sizeof value);

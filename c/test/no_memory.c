@@ -1,4 +1,5 @@
-/* Memory that is refused: at each allocation of an open, in a put, a fill, upkeep and a check. */
+/* Memory that is refused: at each allocation of an open, in a get that would bring an object back, in a put, a fill, upkeep and a
+ * check. */
 #include "memory.h"
 #include "test.h"
 
@@ -101,11 +102,49 @@ static void shows_checks(void) {
     show("a check without memory: %s", kangaroo_strerror(status));
 }
 
+/* Gets each of some keys: how many were hits, each of them right. */
+static long get_each(kangaroo_cache *cache) {
+    char value[100];
+    long hits = 0;
+    for (uint32_t key = 0; key < 2000; key++) {
+        kangaroo_status status = kangaroo_get(cache, &key, sizeof key, 0, value, sizeof value, NULL);
+        expect(status == KANGAROO_OK || status == KANGAROO_ABSENT, "a hit or absent");
+        if (status == KANGAROO_OK) expect(memcmp(value, &key, sizeof key) == 0, "the value");
+        hits += status == KANGAROO_OK;
+    }
+    return hits;
+}
+
+static void shows_gets(const char *folder) {
+    kangaroo_options options = small_options();
+    kangaroo_counters refused, brought;
+    char value[100] = {0};
+    options.upkeep_threads = 0;
+    options.bring_back = 1;
+    kangaroo_cache *cache = open_with(&options, folder);
+    for (uint32_t key = 0; key < 2000; key++) {
+        memcpy(value, &key, sizeof key);
+        expect_status(kangaroo_put(cache, &key, sizeof key, value, sizeof value, KANGAROO_NEVER), KANGAROO_OK, "a put");
+        kangaroo_upkeep(cache, 3, NULL);
+    }
+    refuse();
+    long hits = get_each(cache);
+    allow();
+    kangaroo_counters_read(cache, &refused, sizeof refused);
+    expect(get_each(cache) == hits, "as many hits");
+    kangaroo_counters_read(cache, &brought, sizeof brought);
+    expect(refused.log_hits + refused.set_hits > 0 && refused.brought_back == 0, "hits on flash, of which none came back");
+    expect(brought.brought_back > 0, "hits that came back once there was memory");
+    show("%ld gets refused memory to bring objects back: each is a hit; then %lu came back", hits, brought.brought_back);
+    close_cache(cache);
+}
+
 int main(void) {
     char folder[PATH_BYTES];
     kangaroo_options options = small_options();
     make_folder(folder);
     shows_opens(folder);
+    shows_gets(folder);
     options.upkeep_threads = 0;
     kangaroo_cache *cache = open_with(&options, folder);
     shows_puts(cache);

@@ -287,6 +287,7 @@ const LOW: LaneShape = LaneShape {
     lease_slots: 0,
     threshold: 0,
     admit: 65537,
+    bring_back: 0,
 };
 
 // One whose numbers are all one above their greatest.
@@ -301,6 +302,7 @@ const HIGH: LaneShape = LaneShape {
     lease_slots: 1048577,
     threshold: 33,
     admit: 65537,
+    bring_back: 0,
 };
 
 // One whose numbers are all the greatest that they may be.
@@ -315,6 +317,7 @@ const GREATEST: LaneShape = LaneShape {
     lease_slots: 1048576,
     threshold: 32,
     admit: 65536,
+    bring_back: 0,
 };
 
 // A shape whose first numbers, this many, are those of one shape, and the others those of another.
@@ -331,6 +334,7 @@ fn mixed(count: u32, first: &LaneShape, rest: &LaneShape) -> LaneShape {
         lease_slots: from(7, first.lease_slots, rest.lease_slots),
         threshold: from(8, first.threshold, rest.threshold),
         admit: from(9, first.admit, rest.admit),
+        bring_back: 0,
     }
 }
 
