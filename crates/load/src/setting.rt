@@ -210,7 +210,7 @@ impl Setting {
                 "Lease slots per lane, 0 to 1048576; 0 turns leases off: gets that\nmiss do not fill. More slots make fewer fills stale. [default: 0]"
             }
             Setting::BringBack => {
-                "One of so many hits on flash brings its object back into memory, 0\nto 1000000; 0 brings none back. A larger number brings fewer back.\nAbove 0, half of the objects in memory are such copies. [default: 0]"
+                "One of so many hits on flash brings its object back into memory, 0\nto 1000000; 0 brings none back. A larger number brings fewer back.\nAbove 0, three of four objects in memory are copies. [default: 0]"
             }
             Setting::ServedOperations => {
                 "Operations per caller, 1 to 1000000000. More operations take more\ntime, and no more memory. [default: 1000000]"
