@@ -139,12 +139,12 @@ alone_short refuses TellForeign = (lit≤ tt, refl)
 fits : (n most : ℕ) → n ≤ most → nat_le n most ≡ true
 fits n most less = grind (arith, nat_tests)
 
--- a short answer is not lost in a room of 4,096 bytes
-whole_by : (said : Said) (room : List ℕ) (taken command : ℕ) → IsShort said → 4096 ≤ length room → ((done_by taken command said.outcome (written_in room said.text)).outcome == 13) ≡ false
-whole_by said room taken command short enough =
-    rw (fits (length said.text) 4096 short.0, fits (length said.text) (length room) (omega (arith, short.0, enough))) short.1
+-- an answer that fits is not lost
+pub whole_by : (said : Said) (room : List ℕ) (taken command : ℕ) → length said.text ≤ 4096 → (number_of_outcome said.outcome == 13) ≡ false → length said.text ≤ length room → ((done_by taken command said.outcome (written_in room said.text)).outcome == 13) ≡ false
+whole_by said room taken command short kept within =
+    rw (fits (length said.text) 4096 short, fits (length said.text) (length room) within) kept
 
 pub not_lost : (refuses : Bool) (told : Told) (s : Said) (room : List ℕ) (taken command : ℕ) (done : SessionDone) → s ≡ alone_said refuses told → done ≡ done_by taken command s.outcome (written_in room s.text) → 4096 ≤ length room → (done.outcome == 13) ≡ false
 not_lost refuses told s room taken command done is done_is enough =
     let short : IsShort s = rw is (alone_short refuses told) in
-    rw done_is (whole_by s room taken command short enough)
+    rw done_is (whole_by s room taken command short.0 short.1 (omega (arith, short.0, enough)))
