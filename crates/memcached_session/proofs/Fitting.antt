@@ -1,9 +1,8 @@
 -- The answer of a step with a lane has at most 2,448 bytes.
-use Rattle.std.proofs.Common.{◌≡◌, ℕ, ◌+◌, ◌≤◌, ◌<◌, ◌==◌, ◌&&◌, nat_le, Bool, true, false, List, [], length, Option, Some, None, Result, Ok, Err, arith, refl, lit≤, lit<, sym, subst, ◌∙◌, ap, inl, inr}
-use Rattle.std.specs.Prelude.{IfSome, option_and_then}
+use Rattle.std.proofs.Common.{◌≡◌, ℕ, ◌≤◌, ◌==◌, ◌&&◌, nat_le, Bool, true, false, List, length, Option, Some, None, Result, Ok, Err, arith, refl, lit≤, sym, subst, inl, inr}
+use Rattle.std.specs.Prelude.{IfSome, option_and_then, if◌then◌else◌}
 use Rattle.std.specs.Option.{option_map}
 use Rattle.std.proofs.lemmas.Bool.{cases_Bool}
-use Rattle.std.proofs.lemmas.Bool.Decides.{nat_tests}
 use Rattle.record_pages.specs.declared.put_fault.PutFault.{PutFault}
 use Rattle.record_pages.specs.declared.put_fault.PutFault.TheVariants as faults
 use Rattle.memcached_text.specs.declared.meta_answer.MetaStatus.{MetaStatus}
@@ -12,7 +11,6 @@ use Rattle.memcached_text.specs.declared.store_command.StoreCommand.{StoreComman
 use Rattle.memcached_text.specs.declared.store_command.StoreCommand.TheVariants.{Set, Add, Replace, Append, Prepend, Cas}
 use Rattle.memcached_text.specs.declared.verb.MetaCommand.{MetaCommand}
 use Rattle.memcached_text.specs.declared.verb.MetaCommand.TheVariants as metas
-use Rattle.memcached_text.specs.declared.exptime.Exptime.{Exptime}
 use Rattle.memcached_text.specs.Asked.{Asked, MetaAsking, AskGet, AskGetAndTouch, AskStore, AskDelete, AskDelta, AskTouch, AskFlushAll, AskStats, AskVersion, AskVerbosity, AskQuit, AskShutdown, AskMetaNoop, AskMeta}
 use Rattle.memcached_text.specs.Limits.{AreFlags, HasFlags, GivesFlags, IsBlockWithin}
 use Rattle.memcached_text.specs.Steps.{Told, TellMore, TellRequest, TellData, TellTooLarge, TellKey, TellKeysEnd, TellRefused, TellForeign}
@@ -31,7 +29,7 @@ use Rattle.memcached_session.specs.declared.outcome.SessionOutcome.{SessionOutco
 use Rattle.memcached_session.specs.declared.unserved.Unserved.{Unserved}
 use Rattle.memcached_session.specs.Counting.{number_of_outcome}
 use Rattle.memcached_session.specs.Fitting.{IsLaneAnswer, AsksFlags, IsWentWithin, IsSaidWithin}
-use Rattle.memcached_session.specs.Keyed.{KeyAsked, KeyGet, key_in, unless_unserved, keyed_meta, keyed_request, keyed_block, keyed_set, keyed_large, keyed_told, if_keyed, keyed_of}
+use Rattle.memcached_session.specs.Keyed.{KeyAsked, key_in, unless_unserved, keyed_meta, keyed_request, keyed_block, keyed_set, keyed_large, keyed_told, if_keyed, keyed_of}
 use Rattle.memcached_session.specs.MetaDoing.{outcome_of_item}
 use Rattle.memcached_session.specs.MetaReading.{has_flag}
 use Rattle.memcached_session.specs.MetaSaying.{MetaSaid, went_shown, went_with, unless_q, bare, WentDone, WentMiss, told_seen, seen_by, get_said, set_said, delete_said}

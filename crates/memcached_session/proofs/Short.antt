@@ -1,5 +1,5 @@
 -- The answer of a step without a lane has at most 4,096 bytes, and is lost only if the room is shorter.
-use Rattle.std.proofs.Common.{◌≡◌, ℕ, ◌≤◌, ◌==◌, ◌&&◌, nat_le, Bool, true, false, List, length, Option, Some, None, arith, refl, lit≤, sym, ◌∙◌, ap}
+use Rattle.std.proofs.Common.{◌≡◌, ℕ, ◌≤◌, ◌==◌, nat_le, Bool, true, false, List, length, Option, Some, None, arith, refl, lit≤}
 use Rattle.std.proofs.lemmas.Bool.Decides.{nat_tests}
 use Rattle.memcached_text.specs.declared.fixed_reply.FixedReply.{FixedReply}
 use Rattle.memcached_text.specs.declared.fixed_reply.FixedReply.TheVariants as replies
@@ -18,9 +18,9 @@ use Rattle.memcached_session.specs.declared.unserved.Unserved.{Unserved}
 use Rattle.memcached_session.specs.declared.unserved.Unserved.TheVariants as unserved
 use Rattle.memcached_session.specs.Alone.{reply_line, stats_end, flush_said, shutdown_said, unserved_said, request_said, large_said, alone_said}
 use Rattle.memcached_session.specs.Counting.{number_of_outcome}
-use Rattle.memcached_session.specs.Saying.{Said, said, silent, unless_quiet}
+use Rattle.memcached_session.specs.Saying.{Said, said, unless_quiet}
 use Rattle.memcached_session.specs.Stepping.{written_in, done_by}
-use Rattle.memcached_session.specs.Unserving.{unserved_text, unserved_in}
+use Rattle.memcached_session.specs.Unserving.{unserved_in}
 use Rattle.memcached_session.specs.Wanting.{kind_of}
 
 -- an answer is short, and how it went is not that it was lost

@@ -1,5 +1,5 @@
 -- How long the answer of a step with a lane may be.
-use Rattle.std.specs.Prelude.{◌≡◌, ◌≤◌, ℕ, ◌==◌, false, List, length}
+use Rattle.std.specs.Prelude.{◌≡◌, ◌≤◌, ◌==◌, false, length}
 use Rattle.memcached_text.specs.Limits.{AreFlags}
 use Rattle.memcached_session.specs.Counting.{number_of_outcome}
 use Rattle.memcached_session.specs.Keyed.{KeyAsked, KeyMetaGet, KeyMetaSet, KeyMetaDelete, KeyMetaDelta}

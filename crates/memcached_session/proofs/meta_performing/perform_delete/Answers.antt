@@ -1,9 +1,7 @@
 -- md does what its flags ask for, and is answered so.
-use Rattle.std.proofs.Common.{ℕ, List, Option, subst, sym, ◌∙◌}
-use Rattle.std.specs.Option.{option_map}
-use Rattle.item_lane.specs.Cells.{Kept, kept_shown}
+use Rattle.std.proofs.Common.{subst, sym, ◌∙◌}
 use Rattle.memcached_text.specs.Asked.{meta_shown}
-use Rattle.memcached_session.specs.MetaSaying.{MetaSaid, IsTextOf, delete_said}
+use Rattle.memcached_session.specs.MetaSaying.{MetaSaid, IsTextOf}
 use Rattle.memcached_session.specs.Saying.{said_shown}
 use Rattle.item_lane.specs.declared.meta_deleting.MetaDelete.{MetaDelete}
 use Rattle.item_lane.specs.Doing.{Does}

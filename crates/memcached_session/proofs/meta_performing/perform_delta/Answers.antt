@@ -1,7 +1,7 @@
 -- ma does what its flags ask for, and is answered so.
-use Rattle.std.proofs.Common.{ℕ, List, Option, subst, sym, ◌∙◌}
+use Rattle.std.proofs.Common.{subst, ◌∙◌}
 use Rattle.std.specs.Option.{option_map}
-use Rattle.item_lane.specs.Cells.{Kept, kept_shown}
+use Rattle.item_lane.specs.Cells.{kept_shown}
 use Rattle.memcached_text.specs.Asked.{meta_shown}
 use Rattle.memcached_session.specs.MetaSaying.{MetaSaid, IsTextOf, delta_said}
 use Rattle.memcached_session.specs.Saying.{said_shown}
