@@ -20,9 +20,10 @@ use std::alloc::Global;
 /// room. If it asks nothing of a lane, nothing is done. The word of admission decides whether the pair that leaves memory for a
 /// store enters the log.
 ///
-/// An answer has at most 2,448 bytes, so none is lost in a room of as many. One that is longer than the room is, and then the session is
-/// to be closed; what was asked of the lane is done all the same. No memory is asked for the answer. If something is asked of a lane, a step takes a byte or more. A step whose
-/// `Want::Lane` has no `gives_number` is the same whatever number the turn has.
+/// An answer has at most 2,448 bytes, so none is lost in a room of as many. One that is longer than the room is lost, and then the
+/// session is to be closed; what was asked of the lane is done all the same. No memory is asked for the answer. If something is
+/// asked of a lane, a step takes a byte or more. A step whose `Want::Lane` has no `gives_number` is the same whatever number the
+/// turn has.
 pub fn lane_step<D: PageDevice<PAGE>, const PAGE: usize>(
     lane: &mut ServiceLane<D, PAGE>,
     alloc: Global,
