@@ -1,7 +1,7 @@
 // Gets of items.
 ghost use Rattle.std.specs.Prelude.{◌≡◌, ◌≤◌, length, IfSome};
 ghost use Rattle.std.specs.Option.{option_map};
-ghost use Rattle.record_pages.specs.Bounded.{IsKey};
+ghost use Rattle.record_pages.specs.Bounded.{IsKey, IsValue};
 ghost use Rattle.mover.specs.Get.{answer_of};
 ghost use Rattle.service_lane.specs.Serving.{Gets};
 ghost use Rattle.item_lane.specs.Cells.{kept_shown};
@@ -14,7 +14,7 @@ use page_device::PageDevice;
 use record_pages::ValueBuffer;
 use service_lane::ServiceLane;
 
-/// The live item of a key, if it has one. Its data lie in the buffer. No memory is taken.
+/// The live item of a key, if it has one. Its data lie in the buffer, and have at most 2,048 bytes. No memory is taken.
 ///
 /// A miss by a fault of the device, or by a damaged page, is none: a cache may forget.
 pub fn get<'a, D: PageDevice<PAGE>, const PAGE: usize>(
@@ -24,7 +24,8 @@ pub fn get<'a, D: PageDevice<PAGE>, const PAGE: usize>(
     found: &'a mut ValueBuffer,
 ) -> Option<CacheItem<'a>>
     requires { IsKey key.now }
-    ensures { LooksUp PAGE D.honest D.failures D.held key.now turn lane.old result lane.new }
+    ensures looks { LooksUp PAGE D.honest D.failures D.held key.now turn lane.old result lane.new }
+    ensures within { IfSome result (λ item. IsValue item.bytes.now) }
 {
     let seen = look(lane, key, turn, found);
     live_item(seen, found.bytes(), turn.flushed)

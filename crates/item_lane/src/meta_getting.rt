@@ -1,7 +1,7 @@
 // Meta gets.
-ghost use Rattle.std.specs.Prelude.{◌≡◌, Some};
+ghost use Rattle.std.specs.Prelude.{◌≡◌, Some, IfSome};
 ghost use Rattle.std.specs.Option.{option_map};
-ghost use Rattle.record_pages.specs.Bounded.{IsKey};
+ghost use Rattle.record_pages.specs.Bounded.{IsKey, IsValue};
 ghost use Rattle.item_lane.specs.Cells.{kept_shown};
 ghost use Rattle.item_lane.specs.Plans.{plan_shown, parts_shown};
 ghost use Rattle.item_lane.specs.Meta.{ends_before, expiry_seen, is_due, wins, told, asked, vivified, vivify_plan, meta_get_plan};
@@ -70,8 +70,9 @@ pub fn meta_get<'a, D: PageDevice<PAGE>, const PAGE: usize>(
     found: &'a mut ValueBuffer,
 ) -> ItemReply<'a>
     requires { IsKey key.now }
-    ensures { DoesAndGives PAGE D.honest D.failures D.held key.now turn (meta_get_plan request)
+    ensures does { DoesAndGives PAGE D.honest D.failures D.held key.now turn (meta_get_plan request)
         lane.old result.item result.reply lane.new }
+    ensures within { IfSome result.item (λ item. IsValue item.bytes.now) }
 {
     let seen = look(lane, key, turn, found);
     let item = live_item(seen, found.bytes(), turn.flushed);

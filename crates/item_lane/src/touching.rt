@@ -1,7 +1,7 @@
 // Touches of items.
-ghost use Rattle.std.specs.Prelude.{◌≡◌};
+ghost use Rattle.std.specs.Prelude.{◌≡◌, IfSome};
 ghost use Rattle.std.specs.Option.{option_map};
-ghost use Rattle.record_pages.specs.Bounded.{IsKey};
+ghost use Rattle.record_pages.specs.Bounded.{IsKey, IsValue};
 ghost use Rattle.item_lane.specs.Cells.{kept_shown};
 ghost use Rattle.item_lane.specs.Plans.{plan_shown};
 ghost use Rattle.item_lane.specs.Choosing.{touch_plan};
@@ -58,8 +58,9 @@ pub fn get_and_touch<'a, D: PageDevice<PAGE>, const PAGE: usize>(
     found: &'a mut ValueBuffer,
 ) -> Touched<'a>
     requires { IsKey key.now }
-    ensures { DoesAndGives PAGE D.honest D.failures D.held key.now turn (touch_plan expires)
+    ensures does { DoesAndGives PAGE D.honest D.failures D.held key.now turn (touch_plan expires)
         lane.old result.item result.reply lane.new }
+    ensures within { IfSome result.item (λ item. IsValue item.bytes.now) }
 {
     let seen = look(lane, key, turn, found);
     let item = live_item(seen, found.bytes(), turn.flushed);

@@ -1,3 +1,4 @@
 pub mod Progress
 pub mod Short
+pub mod Fitting
 pub mod Unnumbered

@@ -1,10 +1,10 @@
 -- A step that is asked for takes a byte or more.
-use Rattle.std.proofs.Common.{◌≡◌, ℕ, zero, suc, ◌≤◌, Bool, true, false, cond, List, Option, Some, None, arith, sym, ◌∙◌, ap, refl}
+use Rattle.std.proofs.Common.{◌≡◌, ℕ, zero, suc, ◌≤◌, Bool, true, false, cond, List, Option, Some, None, arith, sym, ◌∙◌, refl}
 use Rattle.memcached_text.specs.declared.reader_state.ReaderState.{ReaderState}
 use Rattle.memcached_text.specs.Steps.{Told, Outcome, TellMore, TellRequest, TellData, TellTooLarge, TellKey, TellKeysEnd, TellRefused, TellForeign, is_more, step_of}
 use Rattle.memcached_session.specs.declared.want.Need.TheVariants as needs
 use Rattle.memcached_session.specs.Keyed.{KeyAsked, keyed_of}
-use Rattle.memcached_session.specs.Wanting.{WantShown, WantAlone, want_by, want_at, is_alone, is_keyed}
+use Rattle.memcached_session.specs.Wanting.{WantAlone, want_by, want_at, is_alone, is_keyed}
 
 -- what was given took a byte or more
 abbrev Takes : ℕ → Told → Type 0

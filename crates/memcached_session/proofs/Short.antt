@@ -1,5 +1,5 @@
 -- The answer of a step without a lane has at most 4,096 bytes, and is lost only if the room is shorter.
-use Rattle.std.proofs.Common.{◌≡◌, ℕ, ◌≤◌, ◌==◌, ◌&&◌, nat_le, Bool, true, false, List, length, Option, Some, None, arith, refl, lit≤, sym, ◌∙◌, ap}
+use Rattle.std.proofs.Common.{◌≡◌, ℕ, ◌≤◌, ◌==◌, nat_le, Bool, true, false, List, length, Option, Some, None, arith, refl, lit≤}
 use Rattle.std.proofs.lemmas.Bool.Decides.{nat_tests}
 use Rattle.memcached_text.specs.declared.fixed_reply.FixedReply.{FixedReply}
 use Rattle.memcached_text.specs.declared.fixed_reply.FixedReply.TheVariants as replies
@@ -18,9 +18,9 @@ use Rattle.memcached_session.specs.declared.unserved.Unserved.{Unserved}
 use Rattle.memcached_session.specs.declared.unserved.Unserved.TheVariants as unserved
 use Rattle.memcached_session.specs.Alone.{reply_line, stats_end, flush_said, shutdown_said, unserved_said, request_said, large_said, alone_said}
 use Rattle.memcached_session.specs.Counting.{number_of_outcome}
-use Rattle.memcached_session.specs.Saying.{Said, said, silent, unless_quiet}
+use Rattle.memcached_session.specs.Saying.{Said, said, unless_quiet}
 use Rattle.memcached_session.specs.Stepping.{written_in, done_by}
-use Rattle.memcached_session.specs.Unserving.{unserved_text, unserved_in}
+use Rattle.memcached_session.specs.Unserving.{unserved_in}
 use Rattle.memcached_session.specs.Wanting.{kind_of}
 
 -- an answer is short, and how it went is not that it was lost
@@ -139,12 +139,12 @@ alone_short refuses TellForeign = (lit≤ tt, refl)
 fits : (n most : ℕ) → n ≤ most → nat_le n most ≡ true
 fits n most less = grind (arith, nat_tests)
 
--- a short answer is not lost in a room of 4,096 bytes
-whole_by : (said : Said) (room : List ℕ) (taken command : ℕ) → IsShort said → 4096 ≤ length room → ((done_by taken command said.outcome (written_in room said.text)).outcome == 13) ≡ false
-whole_by said room taken command short enough =
-    rw (fits (length said.text) 4096 short.0, fits (length said.text) (length room) (omega (arith, short.0, enough))) short.1
+-- an answer that fits is not lost
+pub whole_by : (said : Said) (room : List ℕ) (taken command : ℕ) → length said.text ≤ 4096 → (number_of_outcome said.outcome == 13) ≡ false → length said.text ≤ length room → ((done_by taken command said.outcome (written_in room said.text)).outcome == 13) ≡ false
+whole_by said room taken command short kept within =
+    rw (fits (length said.text) 4096 short, fits (length said.text) (length room) within) kept
 
 pub not_lost : (refuses : Bool) (told : Told) (s : Said) (room : List ℕ) (taken command : ℕ) (done : SessionDone) → s ≡ alone_said refuses told → done ≡ done_by taken command s.outcome (written_in room s.text) → 4096 ≤ length room → (done.outcome == 13) ≡ false
 not_lost refuses told s room taken command done is done_is enough =
     let short : IsShort s = rw is (alone_short refuses told) in
-    rw done_is (whole_by s room taken command short enough)
+    rw done_is (whole_by s room taken command short.0 short.1 (omega (arith, short.0, enough)))

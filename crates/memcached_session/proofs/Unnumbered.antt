@@ -1,5 +1,5 @@
 -- A step whose item gets no number is the same whatever number the server gives.
-use Rattle.std.proofs.Common.{◌≡◌, ℕ, Bool, true, false, cond, List, Option, Some, None, Result, refl, sym, ap, ◌∙◌, subst, arith}
+use Rattle.std.proofs.Common.{◌≡◌, ℕ, Bool, true, false, cond, List, Option, Some, None, refl, subst, arith}
 use Rattle.std.specs.Prelude.{is_some}
 use Rattle.std.specs.Option.{option_map}
 use Rattle.service_lane.specs.Serving.{Serving}
@@ -9,23 +9,22 @@ use Rattle.item_lane.specs.declared.meta_getting.MetaGet.{MetaGet}
 use Rattle.item_lane.specs.Cells.{kept_shown}
 use Rattle.item_lane.specs.Doing.{Does, DoesAndGives}
 use Rattle.item_lane.specs.Meta.{meta_get_plan, meta_delete_plan}
-use Rattle.memcached_text.specs.Asked.{MetaAsking}
 use Rattle.memcached_text.specs.Meta.{token_at, exptime_at}
 use Rattle.memcached_text.specs.declared.reader_state.ReaderState.{ReaderState}
 use Rattle.memcached_text.specs.declared.reader_state.ReaderState.TheVariants.{Line, Keys, SkipLine, SkipData, Closed}
-use Rattle.memcached_text.specs.Steps.{Told, Outcome, TellMore, passing, decided, step_of}
+use Rattle.memcached_text.specs.Steps.{Told, Outcome, passing, decided, step_of}
 use Rattle.memcached_session.specs.declared.done.SessionDone.{SessionDone}
 use Rattle.memcached_session.specs.declared.session.Session.{Session}
-use Rattle.memcached_session.specs.Doing.{DoesKeyed, Finds, FindsAndTouches}
+use Rattle.memcached_session.specs.Doing.{DoesKeyed}
 use Rattle.memcached_session.specs.Framing.{Frame, frame_of}
 use Rattle.memcached_session.specs.Keyed.{KeyAsked, KeyGet, KeyGetAndTouch, KeyStore, KeyTooLarge, KeyDelete, KeyDelta, KeyTouch, KeyMetaGet, KeyMetaSet, KeyMetaDelete, KeyMetaDelta, gives_number, keyed_of}
-use Rattle.memcached_session.specs.MetaDoing.{MetaSays, SaysGet, SaysDelete, get_asked, outcome_of_item}
-use Rattle.memcached_session.specs.MetaReading.{has_flag, meta_get_in, meta_delete_in, vivify_by, invalidation_by}
+use Rattle.memcached_session.specs.MetaDoing.{MetaSays, outcome_of_item}
+use Rattle.memcached_session.specs.MetaReading.{has_flag, meta_get_in, meta_delete_in}
 use Rattle.memcached_session.specs.MetaSaying.{get_said}
 use Rattle.memcached_session.specs.Saying.{Said}
 use Rattle.memcached_session.specs.Standing.{state_of}
 use Rattle.memcached_session.specs.Stepping.{LaneStepsBy, LaneSteps, DoesAndAnswers}
-use Rattle.memcached_session.specs.Wanting.{WantShown, WantAlone, want_by, want_at, is_closed, draws}
+use Rattle.memcached_session.specs.Wanting.{WantAlone, want_by, want_at, is_closed, draws}
 use Rattle.memcached_session.specs.declared.want.Need.TheVariants as needs
 
 none_there : (token : Option (List ℕ)) → is_some token ≡ false → token ≡ None

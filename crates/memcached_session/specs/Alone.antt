@@ -1,16 +1,12 @@
 -- What a step answers that asks nothing of a lane.
 use Rattle.std.specs.Prelude.{ℕ, Bool, List, if◌then◌else◌, Option, Some, None, codes}
-use Rattle.std.specs.List.{concat}
 use Rattle.memcached_text.specs.declared.fixed_reply.FixedReply.{FixedReply}
 use Rattle.memcached_text.specs.declared.fixed_reply.FixedReply.TheVariants as replies
 use Rattle.memcached_text.specs.declared.line_error.LineError.TheVariants.{Unknown}
-use Rattle.memcached_text.specs.declared.text_answer.TextAnswer.{TextAnswer}
-use Rattle.memcached_text.specs.declared.text_answer.TextAnswer.TheVariants as answers
 use Rattle.memcached_text.specs.Texts.{reply_text, fault_text}
 use Rattle.memcached_text.specs.Answers.{line_text}
 use Rattle.memcached_text.specs.Asked.{Asked, AskGet, AskGetAndTouch, AskStore, AskDelete, AskDelta, AskTouch, AskFlushAll, AskStats, AskVersion, AskVerbosity, AskQuit, AskShutdown, AskMetaNoop, AskMeta}
 use Rattle.memcached_text.specs.Steps.{Told, TellMore, TellRequest, TellData, TellTooLarge, TellKey, TellKeysEnd, TellRefused, TellForeign}
-use Rattle.memcached_session.specs.declared.outcome.SessionOutcome.{SessionOutcome}
 use Rattle.memcached_session.specs.declared.outcome.SessionOutcome.TheVariants as outcomes
 use Rattle.memcached_session.specs.declared.stats_kind.StatsKind.{StatsKind}
 use Rattle.memcached_session.specs.declared.stats_kind.StatsKind.TheVariants as kinds

@@ -1,5 +1,5 @@
 -- What a step does to the lane of its key, and what it answers.
-use Rattle.std.specs.Prelude.{◌≡◌, ℕ, Bool, false, List, Option, Some, None, Result, Ok}
+use Rattle.std.specs.Prelude.{◌≡◌, ℕ, Bool, false, List, Option, Some, None, Result}
 use Rattle.std.specs.Option.{option_map}
 use Rattle.record_pages.specs.declared.put_fault.PutFault.{PutFault}
 use Rattle.service_lane.specs.Serving.{Serving, Removes}

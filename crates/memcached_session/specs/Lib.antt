@@ -12,3 +12,4 @@ pub mod Framing
 pub mod MetaDoing
 pub mod Doing
 pub mod Stepping
+pub mod Fitting

@@ -19,7 +19,7 @@ use Rattle.item_lane.specs.declared.meta_storing.MetaMode.TheVariants as modes
 use Rattle.item_lane.specs.declared.meta_storing.MetaSet.{MetaSet}
 use Rattle.item_lane.specs.Cells.{Kept}
 use Rattle.item_lane.specs.Meta.{expiry_after}
-use Rattle.memcached_session.specs.Expiring.{clamped, expires_at}
+use Rattle.memcached_session.specs.Expiring.{expires_at}
 
 -- the line has a flag with this letter
 abbrev pub has_flag : ℕ → List ℕ → Bool

@@ -1,5 +1,5 @@
 -- What is answered to a meta command.
-use Rattle.std.specs.Prelude.{◌≡◌, ℕ, ◌-◌, Bool, false, List, [], length, if◌then◌else◌, Option, Some, None, option_and_then, Result, Ok, Err}
+use Rattle.std.specs.Prelude.{◌≡◌, ℕ, ◌-◌, false, List, [], length, if◌then◌else◌, Option, Some, None, option_and_then, Result, Ok, Err}
 use Rattle.std.specs.Option.{option_map}
 use Rattle.std.specs.Fmt.{decimal}
 use Rattle.record_pages.specs.declared.put_fault.PutFault.{PutFault}
@@ -7,7 +7,6 @@ use Rattle.record_pages.specs.declared.put_fault.PutFault.TheVariants as faults
 use Rattle.memcached_text.specs.declared.fixed_reply.FixedReply.{FixedReply}
 use Rattle.memcached_text.specs.declared.fixed_reply.FixedReply.TheVariants as replies
 use Rattle.memcached_text.specs.declared.meta_answer.MetaAnswer.{MetaAnswer}
-use Rattle.memcached_text.specs.declared.meta_answer.MetaFields.{MetaFields}
 use Rattle.memcached_text.specs.declared.meta_answer.MetaMarks.{MetaMarks}
 use Rattle.memcached_text.specs.declared.meta_answer.MetaStatus.{MetaStatus}
 use Rattle.memcached_text.specs.declared.meta_answer.MetaStatus.TheVariants as statuses

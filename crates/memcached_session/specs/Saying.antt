@@ -3,9 +3,7 @@ use Rattle.std.specs.Prelude.{ℕ, Bool, List, [], if◌then◌else◌, Option, 
 use Rattle.std.specs.Fmt.{decimal}
 use Rattle.record_pages.specs.declared.put_fault.PutFault.{PutFault}
 use Rattle.record_pages.specs.declared.put_fault.PutFault.TheVariants as faults
-use Rattle.memcached_text.specs.declared.fixed_reply.FixedReply.{FixedReply}
 use Rattle.memcached_text.specs.declared.fixed_reply.FixedReply.TheVariants as replies
-use Rattle.memcached_text.specs.declared.text_answer.TextAnswer.{TextAnswer}
 use Rattle.memcached_text.specs.Texts.{reply_text}
 use Rattle.memcached_text.specs.Answers.{answer_text, line_text, value_text}
 use Rattle.item_lane.specs.declared.command_reply.CommandReply.{CommandReply}

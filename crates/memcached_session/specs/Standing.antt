@@ -1,5 +1,5 @@
 -- Where a session stands, by its plain data.
-use Rattle.std.specs.Prelude.{ℕ, Bool, not, ◌==◌, if◌then◌else◌, Option, Some, None}
+use Rattle.std.specs.Prelude.{not, ◌==◌, if◌then◌else◌, Option, Some, None}
 use Rattle.memcached_text.specs.declared.exptime.Exptime.{Exptime}
 use Rattle.memcached_text.specs.declared.exptime.Exptime.TheVariants.{Never, At, Past}
 use Rattle.memcached_text.specs.declared.reader_state.ReaderState.{ReaderState}

@@ -1,5 +1,5 @@
 -- One step of a session.
-use Rattle.std.specs.Prelude.{◌≡◌, ℕ, Bool, not, ◌==◌, ◌&&◌, nat_le, if◌then◌else◌, List, ◌++◌, length, drop, Option, Some, None}
+use Rattle.std.specs.Prelude.{◌≡◌, ℕ, Bool, ◌&&◌, nat_le, if◌then◌else◌, List, ◌++◌, length, drop, Option, Some, None}
 use Rattle.service_lane.specs.Serving.{Serving}
 use Rattle.memcached_text.specs.declared.reader_state.ReaderState.{ReaderState}
 use Rattle.memcached_text.specs.declared.reader_state.ReaderState.TheVariants.{Closed}

@@ -1,5 +1,5 @@
 -- What the next step of a session needs of its server.
-use Rattle.std.specs.Prelude.{ℕ, Bool, true, false, List, [], length, ◌==◌, if◌then◌else◌, Option, Some, None, codes}
+use Rattle.std.specs.Prelude.{ℕ, Bool, true, false, List, length, ◌==◌, if◌then◌else◌, Option, Some, None, codes}
 use Rattle.std.specs.Str.{bytes_eq}
 use Rattle.memcached_text.specs.declared.reader_state.ReaderState.{ReaderState}
 use Rattle.memcached_text.specs.declared.reader_state.ReaderState.TheVariants.{Line, Keys, SkipLine, SkipData, Closed}

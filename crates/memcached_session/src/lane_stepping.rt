@@ -1,5 +1,5 @@
 // A step with the lane of its key.
-ghost use Rattle.std.specs.Prelude.{◌≡◌, ℕ, true, false, ◌≤◌, length};
+ghost use Rattle.std.specs.Prelude.{◌≡◌, ℕ, true, false, ◌==◌, ◌≤◌, length};
 ghost use Rattle.memcached_session.specs.Stepping.{LaneSteps};
 ghost use Rattle.memcached_session.specs.Wanting.{want_of, is_keyed, draws};
 ghost use Rattle.memcached_session.specs.Framing.{frame_of, turn_of};
@@ -20,9 +20,10 @@ use std::alloc::Global;
 /// room. If it asks nothing of a lane, nothing is done. The word of admission decides whether the pair that leaves memory for a
 /// store enters the log.
 ///
-/// An answer that is longer than the room, or than 4,096 bytes, is lost, and the session is to be closed. What was asked of the lane is
-/// done all the same. No memory is asked for the answer. If something is asked of a lane, a step takes a byte or more. A step whose
-/// `Want::Lane` has no `gives_number` is the same whatever number the turn has.
+/// An answer has at most 2,448 bytes, so none is lost in a room of as many. One that is longer than the room is lost, and then the
+/// session is to be closed; what was asked of the lane is done all the same. No memory is asked for the answer. If something is
+/// asked of a lane, a step takes a byte or more. A step whose `Want::Lane` has no `gives_number` is the same whatever number the
+/// turn has.
 pub fn lane_step<D: PageDevice<PAGE>, const PAGE: usize>(
     lane: &mut ServiceLane<D, PAGE>,
     alloc: Global,
@@ -40,7 +41,8 @@ pub fn lane_step<D: PageDevice<PAGE>, const PAGE: usize>(
         session.old bytes.now room.old lane.old result session.new room.new lane.new }
     ensures taken { result.taken ≤ length bytes.now }
     ensures answered { result.answered ≤ length room.old }
-    ensures most { result.answered ≤ 4096 }
+    ensures most { result.answered ≤ 2448 }
+    ensures whole { 2448 ≤ length room.old → (result.outcome == 13) ≡ false }
     ensures some { is_keyed (want_of session.old bytes.now) ≡ true → 1 ≤ result.taken }
 {
     let mut reader = session.reader();

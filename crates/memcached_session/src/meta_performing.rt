@@ -1,9 +1,12 @@
 // What a meta command asks of the lane of its key is done.
-ghost use Rattle.std.specs.Prelude.{◌≡◌};
+ghost use Rattle.std.specs.Prelude.{◌≡◌, ◌==◌, false};
 ghost use Rattle.std.specs.Option.{option_map};
 ghost use Rattle.record_pages.specs.Bounded.{IsKey};
 ghost use Rattle.item_lane.specs.Cells.{kept_shown};
 ghost use Rattle.memcached_text.specs.Asked.{meta_shown};
+ghost use Rattle.memcached_text.specs.Limits.{AreFlags};
+ghost use Rattle.memcached_session.specs.Counting.{number_of_outcome};
+ghost use Rattle.memcached_session.specs.Fitting.{IsLaneAnswer};
 ghost use Rattle.memcached_session.specs.Saying.{said_shown};
 ghost use Rattle.memcached_session.specs.Framing.{frame_of};
 ghost use Rattle.memcached_session.specs.MetaDoing.{SaysGet, SaysSet, SaysDelete, SaysDelta, outcome_of_item};
@@ -32,9 +35,11 @@ pub(crate) fn perform_get<'a, D: PageDevice<PAGE>, const PAGE: usize>(
     cas: u64,
     found: &'a mut ValueBuffer,
 ) -> Answered<'a>
-    requires { IsKey request.key.now }
-    ensures { SaysGet (frame_of PAGE D.honest D.failures D.held turn cas) (meta_shown request.entry)
+    requires key { IsKey request.key.now }
+    requires flags { AreFlags request.flags.now }
+    ensures does { SaysGet (frame_of PAGE D.honest D.failures D.held turn cas) (meta_shown request.entry)
         lane.old (said_shown result) lane.new }
+    ensures fits { IsLaneAnswer (said_shown result) }
 {
     let asked = meta_get_in(&request, turn.moment, cas);
     let done = meta_get(lane, alloc, request.key, asked, turn, found);
@@ -52,9 +57,11 @@ pub(crate) fn perform_set<'a, D: PageDevice<PAGE>, const PAGE: usize>(
     cas: u64,
     found: &mut ValueBuffer,
 ) -> Answered<'a>
-    requires { IsKey request.key.now }
-    ensures { SaysSet (frame_of PAGE D.honest D.failures D.held turn cas) (meta_shown request.entry) block.now
+    requires key { IsKey request.key.now }
+    requires flags { AreFlags request.flags.now }
+    ensures does { SaysSet (frame_of PAGE D.honest D.failures D.held turn cas) (meta_shown request.entry) block.now
         lane.old (said_shown result) lane.new }
+    ensures fits { IsLaneAnswer (said_shown result) }
 {
     let asked = meta_set_in(&request);
     let item = meta_item(&request, block, turn.moment, cas);
@@ -71,9 +78,11 @@ pub(crate) fn perform_delete<'a, D: PageDevice<PAGE>, const PAGE: usize>(
     cas: u64,
     found: &mut ValueBuffer,
 ) -> Answered<'a>
-    requires { IsKey request.key.now }
-    ensures { SaysDelete (frame_of PAGE D.honest D.failures D.held turn cas) (meta_shown request.entry)
+    requires key { IsKey request.key.now }
+    requires flags { AreFlags request.flags.now }
+    ensures does { SaysDelete (frame_of PAGE D.honest D.failures D.held turn cas) (meta_shown request.entry)
         lane.old (said_shown result) lane.new }
+    ensures fits { IsLaneAnswer (said_shown result) }
 {
     let asked = meta_delete_in(&request, turn.moment, cas);
     let reply = meta_delete(lane, alloc, request.key, asked, turn, found);
@@ -90,9 +99,11 @@ pub(crate) fn perform_delta<'a, D: PageDevice<PAGE>, const PAGE: usize>(
     found: &mut ValueBuffer,
     digits: &'a mut Buffer,
 ) -> Answered<'a>
-    requires { IsKey request.key.now }
-    ensures { SaysDelta (frame_of PAGE D.honest D.failures D.held turn cas) (meta_shown request.entry)
+    requires key { IsKey request.key.now }
+    requires flags { AreFlags request.flags.now }
+    ensures does { SaysDelta (frame_of PAGE D.honest D.failures D.held turn cas) (meta_shown request.entry)
         lane.old (said_shown result) lane.new }
+    ensures fits { IsLaneAnswer (said_shown result) }
 {
     let asked = meta_delta_in(&request, turn.moment, cas);
     let done = meta_arithmetic(lane, alloc, request.key, asked, turn, found);
@@ -105,7 +116,8 @@ fn outcome_of_item(
     item: Option<CacheItem<'_>>,
     reply: Result<CommandReply, PutFault>,
 ) -> SessionOutcome
-    ensures { result ≡ outcome_of_item (option_map kept_shown item.entry) reply }
+    ensures value { result ≡ outcome_of_item (option_map kept_shown item.entry) reply }
+    ensures kept { (number_of_outcome result == 13) ≡ false }
 {
     if item.is_none() && reply.is_ok() {
         return SessionOutcome::Miss;

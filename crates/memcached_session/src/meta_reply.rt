@@ -1,6 +1,9 @@
 // What is answered to a meta command.
-ghost use Rattle.std.specs.Prelude.{◌≡◌};
+ghost use Rattle.std.specs.Prelude.{◌≡◌, ◌≤◌, length};
+ghost use Rattle.record_pages.specs.Bounded.{IsKey};
 ghost use Rattle.memcached_text.specs.Asked.{meta_shown};
+ghost use Rattle.memcached_text.specs.Limits.{AreFlags};
+ghost use Rattle.memcached_session.specs.Fitting.{IsSaidWithin, IsWentWithin};
 ghost use Rattle.memcached_session.specs.Saying.{said_shown};
 ghost use Rattle.memcached_session.specs.MetaSaying.{IsTextOf, meta_reply_shown, bare, unless_q};
 
@@ -105,8 +108,12 @@ impl<'a> MetaReply<'a> {
 
     /// The answer to a request, with how it went.
     pub(crate) fn answered(self, request: &MetaRequest<'a>, outcome: SessionOutcome) -> Answered<'a>
+        requires key { IsKey request.now.key.now }
+        requires flags { AreFlags request.now.flags.now }
+        requires within { IsSaidWithin (meta_reply_shown self) }
         ensures text { IsTextOf (meta_shown request.now) (meta_reply_shown self.entry) ((said_shown result).text) }
         ensures outcome { (said_shown result).outcome ≡ outcome }
+        ensures few { length ((said_shown result).text) ≤ 2448 }
     {
         match self {
             MetaReply::Quiet => Answered::silent(outcome),
@@ -122,8 +129,12 @@ ghost use Rattle.memcached_session.specs.MetaSaying.{IsMetaText, shown_of, went_
 impl<'a> MetaShown<'a> {
     // The answer to a request, with how it went.
     fn answered(self, request: &MetaRequest<'a>, outcome: SessionOutcome) -> Answered<'a>
+        requires key { IsKey request.now.key.now }
+        requires flags { AreFlags request.now.flags.now }
+        requires within { IsWentWithin (went_shown self.status) }
         ensures text { IsMetaText (meta_shown request.now) (shown_of self.entry) ((said_shown result).text) }
         ensures outcome { (said_shown result).outcome ≡ outcome }
+        ensures few { length ((said_shown result).text) ≤ 2448 }
     {
         let answer = self.answer(request);
         Answered::loud(TextAnswer::Meta(answer), outcome)
@@ -131,7 +142,11 @@ impl<'a> MetaShown<'a> {
 
     // The answer to a request.
     fn answer(self, request: &MetaRequest<'a>) -> MetaAnswer<'a>
-        ensures { IsMetaText (meta_shown request.now) (shown_of self.entry) (meta_text result) }
+        requires key { IsKey request.now.key.now }
+        requires flags { AreFlags request.now.flags.now }
+        requires within { IsWentWithin (went_shown self.status) }
+        ensures text { IsMetaText (meta_shown request.now) (shown_of self.entry) (meta_text result) }
+        ensures few { length (meta_text result) ≤ 2448 }
     {
         let fields = MetaFields {
             key: request.key,

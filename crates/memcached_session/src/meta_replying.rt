@@ -3,6 +3,7 @@ ghost use Rattle.std.specs.Prelude.{◌≡◌, ◌-◌, length};
 ghost use Rattle.std.specs.Option.{option_map};
 ghost use Rattle.item_lane.specs.Cells.{kept_shown};
 ghost use Rattle.memcached_session.specs.Expiring.{clamped};
+ghost use Rattle.memcached_session.specs.Fitting.{IsSaidWithin};
 ghost use Rattle.memcached_session.specs.MetaSaying.{meta_reply_shown, fault_reply, ttl_of, went_shown, went_with, told_of, told_change, seen_by, told_seen, get_said, set_said, delete_said, counted_expiry, delta_said};
 
 use crate::expiring::clamped;
@@ -222,8 +223,9 @@ pub(crate) fn to_delta<'a>(
     done: ItemReply<'_>,
     digits: &'a mut Buffer,
 ) -> MetaReply<'a>
-    ensures { meta_reply_shown result ≡ delta_said moment request.now.flags.now asked
+    ensures said { meta_reply_shown result ≡ delta_said moment request.now.flags.now asked
         (option_map kept_shown done.entry.item) done.entry.reply }
+    ensures within { IsSaidWithin (meta_reply_shown result) }
 {
     match done.reply {
         Ok(CommandReply::Number(number)) => {

@@ -7,6 +7,7 @@ ghost use Rattle.memcached_text.specs.Asked.{storing_shown, delta_shown};
 ghost use Rattle.item_lane.specs.Cells.{kept_shown};
 ghost use Rattle.memcached_session.specs.Keyed.{keyed_shown, key_in};
 ghost use Rattle.memcached_session.specs.Saying.{said_shown};
+ghost use Rattle.memcached_session.specs.Fitting.{AsksFlags, IsLaneAnswer};
 ghost use Rattle.memcached_session.specs.Framing.{frame_of};
 ghost use Rattle.memcached_session.specs.Doing.{kept_of, condition_of, change_of, delta_of, DoesKeyed, StoresBy, FindsAndTouches, Touches, RemovesLarge};
 
@@ -40,9 +41,11 @@ pub(crate) fn perform<'a, D: PageDevice<PAGE>, const PAGE: usize>(
     found: &'a mut ValueBuffer,
     digits: &'a mut Buffer,
 ) -> Answered<'a>
-    requires { IsKey (key_in (keyed_shown keyed)) }
-    ensures { DoesKeyed (frame_of PAGE D.honest D.failures D.held turn cas) (keyed_shown keyed.entry)
+    requires key { IsKey (key_in (keyed_shown keyed)) }
+    requires flags { AsksFlags (keyed_shown keyed) }
+    ensures does { DoesKeyed (frame_of PAGE D.honest D.failures D.held turn cas) (keyed_shown keyed.entry)
         lane.old (said_shown result) lane.new }
+    ensures fits { IsLaneAnswer (said_shown result) }
 {
     match keyed {
         Keyed::Get { key, with_cas } => to_item(key, with_cas, get(lane, key, turn, found)),
@@ -87,8 +90,9 @@ fn find_and_touch<'a, D: PageDevice<PAGE>, const PAGE: usize>(
     found: &'a mut ValueBuffer,
 ) -> Answered<'a>
     requires { IsKey key.now }
-    ensures { (cas : ℕ) → FindsAndTouches (frame_of PAGE D.honest D.failures D.held turn cas) key.now exptime with_cas
+    ensures does { (cas : ℕ) → FindsAndTouches (frame_of PAGE D.honest D.failures D.held turn cas) key.now exptime with_cas
         lane.old (said_shown result) lane.new }
+    ensures fits { IsLaneAnswer (said_shown result) }
 {
     let expires = expires_at(exptime, turn.moment);
     let touched = get_and_touch(lane, alloc, key, expires, turn, found);
@@ -202,7 +206,8 @@ fn remove_large<'a, D: PageDevice<PAGE>, const PAGE: usize>(
     noreply: bool,
 ) -> Answered<'a>
     requires { IsKey key.now }
-    ensures { RemovesLarge D.held key.now noreply lane.old (said_shown result) lane.new }
+    ensures does { RemovesLarge D.held key.now noreply lane.old (said_shown result) lane.new }
+    ensures fits { IsLaneAnswer (said_shown result) }
 {
     match lane.remove(key) {
         Ok(()) => {}

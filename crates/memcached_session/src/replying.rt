@@ -1,8 +1,11 @@
 // What is answered to a command.
-ghost use Rattle.std.specs.Prelude.{◌≡◌, if◌then◌else◌};
+ghost use Rattle.std.specs.Prelude.{◌≡◌, ◌≤◌, ◌==◌, false, length, if◌then◌else◌, IfSome};
 ghost use Rattle.std.specs.Option.{option_map};
+ghost use Rattle.record_pages.specs.Bounded.{IsKey, IsValue};
 ghost use Rattle.item_lane.specs.Cells.{kept_shown};
 ghost use Rattle.memcached_text.specs.Answers.{answer_text};
+ghost use Rattle.memcached_session.specs.Counting.{number_of_outcome};
+ghost use Rattle.memcached_session.specs.Fitting.{IsLaneAnswer};
 ghost use Rattle.memcached_session.specs.Saying.{said_shown, said_of_reply, said_of_item, text_of_reply, outcome_of_reply};
 
 use crate::answered::Answered;
@@ -13,7 +16,8 @@ use record_pages::PutFault;
 
 /// What is answered to a command that replied this.
 pub(crate) fn to_reply<'a>(noreply: bool, reply: Result<CommandReply, PutFault>) -> Answered<'a>
-    ensures { said_shown result ≡ said_of_reply noreply reply }
+    ensures said { said_shown result ≡ said_of_reply noreply reply }
+    ensures fits { IsLaneAnswer (said_shown result) }
 {
     Answered::unless_quiet(noreply, answer(reply), outcome(reply))
 }
@@ -24,8 +28,11 @@ pub(crate) fn to_item<'a>(
     with_cas: bool,
     item: Option<CacheItem<'a>>,
 ) -> Answered<'a>
-    ensures { said_shown result
+    requires key { IsKey key.now }
+    requires within { IfSome item (λ found. IsValue found.bytes.now) }
+    ensures said { said_shown result
         ≡ said_of_item key.now with_cas (option_map kept_shown item.entry) }
+    ensures fits { IsLaneAnswer (said_shown result) }
 {
     match item {
         None => Answered::silent(SessionOutcome::Miss),
@@ -50,7 +57,8 @@ fn if_wanted(with_cas: bool, cas: u64) -> Option<u64>
 
 // The answer to a command that replied this.
 fn answer<'a>(reply: Result<CommandReply, PutFault>) -> TextAnswer<'a>
-    ensures { answer_text result ≡ text_of_reply reply }
+    ensures text { answer_text result ≡ text_of_reply reply }
+    ensures few { length (answer_text result) ≤ 2448 }
 {
     match reply {
         Ok(CommandReply::Stored) => TextAnswer::Reply(FixedReply::Stored),
@@ -70,7 +78,8 @@ fn answer<'a>(reply: Result<CommandReply, PutFault>) -> TextAnswer<'a>
 
 /// How a command went that replied this.
 pub(crate) fn outcome(reply: Result<CommandReply, PutFault>) -> SessionOutcome
-    ensures { result ≡ outcome_of_reply reply }
+    ensures value { result ≡ outcome_of_reply reply }
+    ensures kept { (number_of_outcome result == 13) ≡ false }
 {
     match reply {
         Ok(CommandReply::Stored) => SessionOutcome::Stored,

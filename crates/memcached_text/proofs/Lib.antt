@@ -4,3 +4,5 @@ pub mod StepLaws
 pub mod StepProgress
 pub mod StepBounds
 pub mod Streams
+pub mod StepFlags
+pub mod public_laws

@@ -9,3 +9,4 @@ pub mod Texts
 pub mod Answers
 pub mod Steps
 pub mod StepsShown
+pub mod Limits

@@ -5,6 +5,7 @@ ghost use Rattle.memcached_text.specs.Asked.{shown, shown_or_refused};
 ghost use Rattle.memcached_text.specs.Requests.{request_of};
 ghost use Rattle.memcached_text.specs.Words.{after_word, is_key};
 ghost use Rattle.memcached_text.specs.Steps.{Outcome, outcome, nothing, is_feed, is_end, without_return, block_step, keys_step, meta_step, asked_step, whole_step, refused_step, long_step, line_by, line_step, key_or, last_key, key_by, key_step, too_long, passing, decided, step_of, events_of, given_list, is_more, event_shown, TellMore, TellRequest, TellRefused};
+ghost use Rattle.memcached_text.specs.Limits.{GivesFlags};
 ghost use Rattle.memcached_text.specs.StepsShown.{outcome_shown, passing_shown};
 
 use crate::exptime::Exptime;
@@ -510,6 +511,9 @@ impl RequestReader {
 
         // What is given takes a byte or more: so a loop over steps ends.
         ensures some { is_more (event_shown result.event) ≡ false → 1 ≤ result.taken }
+
+        // The flags of a meta request have no fault: each letter stands once, so its answer is bounded.
+        ensures flags { GivesFlags (event_shown result.event) }
 
         // If nothing is whole, few bytes are left untaken: a line of 2,048 bytes, a data block, and their ends but for one byte.
         ensures few { event_shown result.event ≡ TellMore → length bytes.now ≤ result.taken + (2050 + self.old.max_data_len) }

@@ -4,8 +4,8 @@ use Rattle.item_lane.specs.Plans.{plan_shown}
 use Rattle.item_lane.proofs.DoneLaws.{done_and_given}
 use Rattle.item_lane.proofs.meta_getting.meta_get.Goals as goal
 
-pub returns : goal.returns
-returns g c =
+pub returns-clause-does : goal.returns-clause-does
+returns-clause-does g c =
     let d = g.D.PageDevice in
     let a = c.args in
     let l = c.look-seen in

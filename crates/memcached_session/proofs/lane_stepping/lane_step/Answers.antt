@@ -1,5 +1,5 @@
 -- A step with a lane does what is asked of the lane, and takes a byte or more.
-use Rattle.std.proofs.Common.{◌≡◌, ℕ, ◌≤◌, ◌∙◌, ap, sym, subst}
+use Rattle.std.proofs.Common.{rules, ℕ, ◌≤◌, ◌∙◌, ap, sym, subst}
 use Rattle.item_lane.specs.declared.command_turn.CommandTurn.{CommandTurn}
 use Rattle.memcached_text.specs.declared.request_reader.RequestReader.{RequestReader}
 use Rattle.memcached_text.specs.Steps.{outcome, event_shown, step_of}
@@ -8,6 +8,7 @@ use Rattle.memcached_session.specs.Framing.{frame_of, turn_of}
 use Rattle.memcached_session.specs.Keyed.{keyed_shown}
 use Rattle.memcached_session.specs.Saying.{said_shown}
 use Rattle.memcached_session.specs.Standing.{state_of}
+use Rattle.memcached_session.proofs.Fitting.{asks_flags, lane_few, lane_whole}
 use Rattle.memcached_session.proofs.Progress.{lane_takes, none_takes}
 use Rattle.memcached_session.proofs.Unnumbered.{steps_made, unnumbered}
 use Rattle.memcached_session.proofs.lane_stepping.lane_step.Goals as goal
@@ -20,7 +21,7 @@ returns-in-Some-clause-steps g c =
     let exact = step.ensures.exact ∙ ap (λ (r : RequestReader). step_of r.max_data_len r.state a.bytes.now) c.reader-reader.ensures in
     let does = subst
     (λ (t : CommandTurn). DoesKeyed (frame_of g.row.PAGE d.honest d.failures d.held t a.turn.now.cas) (keyed_shown c.in-Some.keyed) a.lane.now (said_shown c.perform-answered.result) c.perform-answered.new.lane)
-    c.with_word.ensures c.perform-answered.ensures in
+    c.with_word.ensures c.perform-answered.ensures.does in
     steps_made (frame_of g.row.PAGE d.honest d.failures d.held (turn_of a.turn.now a.word) a.turn.now.cas) a.session.now a.bytes.now a.room.now a.lane.now c.settle.result c.settle.new.session c.settle.new.room c.perform-answered.new.lane
     (outcome step.result.taken (event_shown step.result.event) step.new.self.state) (keyed_shown c.in-Some.keyed) exact c.in-Some.ensures.exact
     (record { said = said_shown c.perform-answered.result; does_it = does; settles = c.settle.ensures.settles })
@@ -42,3 +43,12 @@ returns-in-None-clause-some g c = λ keyed.
     let step = c.take-step in
     let exact = step.ensures.exact ∙ ap (λ (r : RequestReader). step_of r.max_data_len r.state c.args.bytes.now) c.reader-reader.ensures in
     none_takes (state_of c.args.session.now) c.args.bytes.now (outcome step.result.taken (event_shown step.result.event) step.new.self.state) c.nothing.result.taken exact c.in-None.ensures.exact keyed
+
+pub perform-answered-requires : goal.perform-answered-requires
+perform-answered-requires g c = (search rules, (c.in-Some.ensures.key, asks_flags (event_shown c.take-step.result.event) (keyed_shown c.in-Some.keyed) c.in-Some.ensures.exact c.take-step.ensures.flags))
+
+pub returns-in-Some-clause-most : goal.returns-in-Some-clause-most
+returns-in-Some-clause-most g c = lane_few (said_shown c.perform-answered.result) c.args.room.now _ _ c.settle.result c.perform-answered.ensures.fits c.settle.ensures.settles.done_is
+
+pub returns-in-Some-clause-whole : goal.returns-in-Some-clause-whole
+returns-in-Some-clause-whole g c = λ enough. lane_whole (said_shown c.perform-answered.result) c.args.room.now _ _ c.settle.result c.perform-answered.ensures.fits c.settle.ensures.settles.done_is enough

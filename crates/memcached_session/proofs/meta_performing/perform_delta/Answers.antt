@@ -1,7 +1,7 @@
 -- ma does what its flags ask for, and is answered so.
-use Rattle.std.proofs.Common.{ℕ, List, Option, subst, ◌∙◌}
+use Rattle.std.proofs.Common.{subst, ◌∙◌}
 use Rattle.std.specs.Option.{option_map}
-use Rattle.item_lane.specs.Cells.{Kept, kept_shown}
+use Rattle.item_lane.specs.Cells.{kept_shown}
 use Rattle.memcached_text.specs.Asked.{meta_shown}
 use Rattle.memcached_session.specs.MetaSaying.{MetaSaid, IsTextOf, delta_said}
 use Rattle.memcached_session.specs.Saying.{said_shown}
@@ -10,8 +10,8 @@ use Rattle.item_lane.specs.Doing.{DoesAndGives}
 use Rattle.item_lane.specs.Meta.{meta_delta_plan}
 use Rattle.memcached_session.proofs.meta_performing.perform_delta.Goals as goal
 
-pub returns : goal.returns
-returns g c =
+pub returns-clause-does : goal.returns-clause-does
+returns-clause-does g c =
     let d = g.D.PageDevice in
     let a = c.args in
     let m = c.meta_delta_in-asked in
@@ -26,7 +26,7 @@ returns g c =
             subst
             (λ (q : MetaDelta). IsTextOf (meta_shown a.request) (delta_said a.turn.moment a.request.flags.now q (option_map kept_shown t.result.item) t.result.reply) ((said_shown c.answered.result).text))
             m.ensures
-            (subst (λ (x : MetaSaid). IsTextOf (meta_shown a.request) x ((said_shown c.answered.result).text)) c.to_delta.ensures c.answered.ensures.text);
-        outcome_is = c.answered.ensures.outcome ∙ c.outcome_of_item-outcome.ensures;
+            (subst (λ (x : MetaSaid). IsTextOf (meta_shown a.request) x ((said_shown c.answered.result).text)) c.to_delta.ensures.said c.answered.ensures.text);
+        outcome_is = c.answered.ensures.outcome ∙ c.outcome_of_item-outcome.ensures.value;
       };
     }

@@ -1,18 +1,19 @@
 -- ms does what its flags ask for, and is answered so.
-use Rattle.std.proofs.Common.{ℕ, List, Option, subst, ◌∙◌}
-use Rattle.std.specs.Option.{option_map}
+use Rattle.std.proofs.Common.{subst, sym, ◌∙◌}
 use Rattle.item_lane.specs.Cells.{Kept, kept_shown}
 use Rattle.memcached_text.specs.Asked.{meta_shown}
-use Rattle.memcached_session.specs.MetaSaying.{MetaSaid, IsTextOf, set_said}
+use Rattle.memcached_session.specs.MetaSaying.{MetaSaid, IsTextOf}
 use Rattle.memcached_session.specs.Saying.{said_shown}
 use Rattle.item_lane.specs.declared.meta_storing.MetaSet.{MetaSet}
 use Rattle.item_lane.specs.Doing.{SetsAs}
 use Rattle.item_lane.specs.Meta.{condition_of}
 use Rattle.memcached_session.specs.MetaReading.{meta_set_in}
+use Rattle.memcached_session.specs.Fitting.{IsSaidWithin}
+use Rattle.memcached_session.proofs.Fitting.{set_within}
 use Rattle.memcached_session.proofs.meta_performing.perform_set.Goals as goal
 
-pub returns : goal.returns
-returns g c =
+pub returns-clause-does : goal.returns-clause-does
+returns-clause-does g c =
     let d = g.D.PageDevice in
     let a = c.args in
     let m = c.meta_set_in-asked in
@@ -29,6 +30,9 @@ returns g c =
           m.ensures t.ensures);
       says = record {
         text = subst (λ (x : MetaSaid). IsTextOf (meta_shown a.request) x ((said_shown c.answered.result).text)) c.to_set.ensures c.answered.ensures.text;
-        outcome_is = c.answered.ensures.outcome ∙ c.outcome.ensures;
+        outcome_is = c.answered.ensures.outcome ∙ c.outcome.ensures.value;
       };
     }
+
+pub answered-requires-clause-within : goal.answered-requires-clause-within
+answered-requires-clause-within g c = subst IsSaidWithin (sym c.to_set.ensures) (set_within c.args.cas c.args.request.flags.now c.meta_set-reply.result)

@@ -4,8 +4,8 @@ use Rattle.item_lane.specs.Choosing.{touch_plan}
 use Rattle.item_lane.specs.Doing.{DoesAndGives}
 use Rattle.memcached_session.proofs.performing.find_and_touch.Goals as goal
 
-pub returns : goal.returns
-returns g c =
+pub returns-clause-does : goal.returns-clause-does
+returns-clause-does g c =
     let d = g.D.PageDevice in
     let a = c.args in
     let t = c.get_and_touch-touched in
@@ -13,6 +13,6 @@ returns g c =
       item = t.result.item;
       result = t.result.reply;
       does_it =
-          subst (λ (e : Option ℕ). DoesAndGives g.row.PAGE d.honest d.failures d.held a.key.now a.turn (touch_plan e) a.lane.now t.result.item t.result.reply t.new.lane) c.expires_at-expires.ensures t.ensures;
-      said_is = c.to_item.ensures;
+          subst (λ (e : Option ℕ). DoesAndGives g.row.PAGE d.honest d.failures d.held a.key.now a.turn (touch_plan e) a.lane.now t.result.item t.result.reply t.new.lane) c.expires_at-expires.ensures t.ensures.does;
+      said_is = c.to_item.ensures.said;
     }

@@ -1,5 +1,5 @@
 -- A step without a lane that is asked for takes a byte or more, and its answer is not lost in a room of 4,096 bytes.
-use Rattle.std.proofs.Common.{◌≡◌, ℕ, ◌≤◌, ◌∙◌, ap, sym, subst}
+use Rattle.std.proofs.Common.{ℕ, ◌≤◌, ◌∙◌, ap, sym, subst}
 use Rattle.memcached_text.specs.declared.request_reader.RequestReader.{RequestReader}
 use Rattle.memcached_text.specs.Steps.{outcome, event_shown, step_of}
 use Rattle.memcached_session.specs.Saying.{said_shown}
