@@ -93,13 +93,11 @@ fn brings_back(ran: &Ran, row: &Row) -> bool {
     let (Some(log), Some(set), Some(copies), Some(brought)) = numbers else {
         return false;
     };
+    let read = log.wrapping_add(set).wrapping_sub(copies);
     ran.status == 0
         && set >= copies
         && (copies > 0) == row.copies
-        && match row.every {
-            0 => brought == 0,
-            every => brought == (log + set - copies) / every,
-        }
+        && brought == read.checked_div(row.every).unwrap_or(0)
 }
 
 #[test]
