@@ -103,8 +103,8 @@ typedef enum ks_outcome {
     KS_TOO_LARGE = 10, /* the object is too large; after set and ms the key has no value, nor after a store that was made and refused */
     KS_NO_MEMORY = 11, /* memory was refused to the store, and the key has no value */
     KS_REFUSED = 12,   /* the request is refused by its text, or the server refuses it */
-    KS_LOST = 13       /* the answer was not written, since it is longer than the room, or than KS_MOST_ANSWER: the session is to be
-                        * closed. What the request asked for may have been done */
+    KS_LOST = 13       /* the answer was not written, since it is longer than the room: the session is to be closed. What the request asked
+                        * for may have been done. It never comes in a room of KS_MOST_ANSWER bytes */
 } ks_outcome;
 
 typedef struct ks_done {
