@@ -36,3 +36,5 @@ mod TryingLemmas
 mod FaultLemmas
 mod WrongLemmas
 mod CrossedLemmas
+mod WarmLemmas
+mod WarmingLemmas
