@@ -1,3 +1,4 @@
 mod all_faults;
 mod by_rules;
 mod telling;
+mod warm;
