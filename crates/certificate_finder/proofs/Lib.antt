@@ -38,3 +38,4 @@ mod WrongLemmas
 mod CrossedLemmas
 mod WarmLemmas
 mod WarmingLemmas
+mod ColdLemmas
