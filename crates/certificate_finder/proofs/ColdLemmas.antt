@@ -39,10 +39,10 @@ stays_cold history warm certificate is a =
 
 -- the hit of an added put
 pub record PutOf (history : List Call) (hits : List ℕ) (put : Call) : Type 0 where
-  hit : ℕ
-  warm : IsWarm history hit
-  listed : Member hit hits
-  is : put ≡ warm_put warm.unput.call
+  pub hit : ℕ
+  pub warm : IsWarm history hit
+  pub listed : Member hit hits
+  pub is : put ≡ warm_put warm.unput.call
 
 pub put_of : (history : List Call) (hits : List ℕ) (put : Call) → All (IsWarm history) hits → Member put (warm_puts history hits) → PutOf history hits put
 put_of history hits put all member =
@@ -82,11 +82,11 @@ keys_apart history hits all rise =
     let turns = pairs_weaker (λ p q. p < q) (AreInTurn history) hits (λ p q m n less. record { one = all_member (IsWarm history) hits p all m; other = all_member (IsWarm history) hits q all n; less = less }) rise in
     pairs_map warm_put (λ one other. one.key ≢ other.key) (filter_map (slice_get history) hits)
     (pairs_picked (slice_get history) (AreInTurn history) (λ (c d : Call). c.key ≢ d.key) hits (λ p q c d at_p at_q turn key.
-        let one = same_Some c turn.one.unput.call (sym at_p ∙ turn.one.unput.at) in
-        let other = same_Some d turn.other.unput.call (sym at_q ∙ turn.other.unput.at) in
-        let e = one_key history p q turn.one turn.other (ap (λ (x : Call). x.key) (sym other) ∙ sym key ∙ ap (λ (x : Call). x.key) one) in
-        let l = turn.less in
-        omega (arith, e, l)) turns)
+    let one = same_Some c turn.one.unput.call (sym at_p ∙ turn.one.unput.at) in
+    let other = same_Some d turn.other.unput.call (sym at_q ∙ turn.other.unput.at) in
+    let e = one_key history p q turn.one turn.other (ap (λ (x : Call). x.key) (sym other) ∙ sym key ∙ ap (λ (x : Call). x.key) one) in
+    let l = turn.less in
+    omega (arith, e, l)) turns)
 
 pub warmed_once : (history : List Call) (warm : Warmed) → IsWarmed history warm → AllPairs (λ one other. one.key ≢ other.key) (warm_puts history warm.hits.items) × All (λ put. (hit : ℕ) × (is : IsUnput history hit) × (is.call.key ≡ put.key)) (warm_puts history warm.hits.items)
 warmed_once history warm is = (

@@ -39,3 +39,4 @@ mod CrossedLemmas
 mod WarmLemmas
 mod WarmingLemmas
 mod ColdLemmas
+mod PastLemmas

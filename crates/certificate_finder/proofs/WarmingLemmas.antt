@@ -175,8 +175,8 @@ none_at count k end at =
 pub ends_kept : (calls : List Call) (ends : List ℕ) (count : ℕ) → All (λ call. call.end ≡ 0) calls → count ≡ length calls → ends ≡ replicate count 0 → each_ending calls ends ≡ calls
 ends_kept calls ends count all same is =
     zero_ends calls ends (ap length is ∙ length-replicate {A = ℕ} count 0 ∙ same) (λ call m. all_member (λ (c : Call). c.end ≡ 0) calls call all m) (λ end m.
-        let place = place_of ends end m in
-        none_at count place.0 end (ap (λ es. slice_get es place.0) (sym is) ∙ place.2))
+    let place = place_of ends end m in
+    none_at count place.0 end (ap (λ es. slice_get es place.0) (sym is) ∙ place.2))
 
 -- the puts that are added end at 0
 pub puts_end : (calls : List Call) → All (λ call. call.end ≡ 0) (map warm_put calls)

@@ -115,10 +115,7 @@ pub(crate) fn first_turns_of(
 }
 
 /// For each number of a key the first end of its writes.
-pub(crate) fn first_ends_of(
-    alloc: Global,
-    steps: &[NumberedCall],
-) -> Result<Vec<u128>, AllocError>
+pub(crate) fn first_ends_of(alloc: Global, steps: &[NumberedCall]) -> Result<Vec<u128>, AllocError>
     ensures { IfOk result (λ ends. AreLeast IsWriteEnd steps.now (length steps.now) ends.items) }
 {
     let mut ends = vec![in alloc; NO_RANK; keys_in(steps)]?;

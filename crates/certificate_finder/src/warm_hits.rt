@@ -8,9 +8,7 @@ ghost use Rattle.certificate_finder.specs.WarmSteps.{ArePairs, AreLeast, IsFirst
 
 use crate::numbered_call::{NumberedCall, step_at};
 use crate::reversed::list_if;
-use crate::unput::{
-    first_ends_of, first_turns_of, is_unlisted, put_pairs_of, rank_at, turn_rank,
-};
+use crate::unput::{first_ends_of, first_turns_of, is_unlisted, put_pairs_of, rank_at, turn_rank};
 use std::alloc::{AllocError, Global};
 
 /// The positions of these hits, in the order of the history.

@@ -11,7 +11,11 @@ type Begun = (&'static [Row], &'static [u32], Want);
 const HISTORIES: [Begun; 15] = [
     // Nothing is added where each value was put.
     (
-        &[(1, 1, 2, Did::Put(1)), (1, 3, 4, Did::Hit(1)), (2, 0, 0, Did::Miss)],
+        &[
+            (1, 1, 2, Did::Put(1)),
+            (1, 3, 4, Did::Hit(1)),
+            (2, 0, 0, Did::Miss),
+        ],
         &[],
         Want::Accepted,
     ),
@@ -56,13 +60,21 @@ const HISTORIES: [Begun; 15] = [
     ),
     // A put goes on while the hit starts.
     (
-        &[(1, 1, 4, Did::Put(1)), (1, 2, 3, Did::Hit(7)), (1, 5, 6, Did::Hit(1))],
+        &[
+            (1, 1, 4, Did::Put(1)),
+            (1, 2, 3, Did::Hit(7)),
+            (1, 5, 6, Did::Hit(1)),
+        ],
         &[1],
         Want::Accepted,
     ),
     // A stale hit stays one: its value was put and replaced, or put later.
     (
-        &[(1, 1, 2, Did::Put(1)), (1, 3, 4, Did::Put(2)), (1, 5, 6, Did::Hit(1))],
+        &[
+            (1, 1, 2, Did::Put(1)),
+            (1, 3, 4, Did::Put(2)),
+            (1, 5, 6, Did::Hit(1)),
+        ],
         &[],
         Want::Hit,
     ),
@@ -73,13 +85,21 @@ const HISTORIES: [Begun; 15] = [
     ),
     // What was there from the start is replaced, and read once more.
     (
-        &[(1, 1, 1, Did::Hit(7)), (1, 2, 3, Did::Put(1)), (1, 4, 5, Did::Hit(7))],
+        &[
+            (1, 1, 1, Did::Hit(7)),
+            (1, 2, 3, Did::Put(1)),
+            (1, 4, 5, Did::Hit(7)),
+        ],
         &[0],
         Want::Hit,
     ),
     // The value was put at another key.
     (
-        &[(1, 1, 1, Did::Hit(7)), (2, 0, 0, Did::Put(7)), (2, 3, 3, Did::Hit(7))],
+        &[
+            (1, 1, 1, Did::Hit(7)),
+            (2, 0, 0, Did::Put(7)),
+            (2, 3, 3, Did::Hit(7)),
+        ],
         &[0],
         Want::Accepted,
     ),
