@@ -1,5 +1,5 @@
 -- What warming adds to a history, and what it does not change.
-use Rattle.std.proofs.Common.{◌≡◌, ◌≢◌, ℕ, ◌+◌, ◌-◌, ◌<◌, ◌≤◌, Some, List, [], ◌∷◌, ◌++◌, length, map, refl, sym, ap, ◌∙◌, subst, arith, inl, inr}
+use Rattle.std.proofs.Common.{◌≡◌, ◌≢◌, ℕ, ◌-◌, ◌<◌, ◌≤◌, Some, List, [], ◌∷◌, ◌++◌, length, refl, sym, ap, ◌∙◌, subst, arith, inl, inr}
 use Rattle.std.specs.Prelude.{All, AllPairs, slice_get}
 use Rattle.std.specs.List.{filter_map}
 use Rattle.std.proofs.lemmas.Bool.{cases_lt}
@@ -12,7 +12,7 @@ use Rattle.certificate_checker.specs.Acceptance.{IsAccepted}
 use Rattle.certificate_checker.proofs.public_laws.Listing.{Member, Pairs, all_member, member_all, member_at, member_map, member_picked, pairs_from, pairs_map, pairs_picked, pairs_to, pairs_weaker}
 use Rattle.certificate_finder.specs.declared.warmed.Warmed.{Warmed}
 use Rattle.certificate_finder.specs.Choosing.{IsEarlierBy}
-use Rattle.certificate_finder.specs.Reads.{CouldRead, HasBegun, HasNone, StandsBetween, StandsFor}
+use Rattle.certificate_finder.specs.Reads.{CouldRead, HasBegun, HasNone, StandsBetween}
 use Rattle.certificate_finder.specs.Turns.{start_at}
 use Rattle.certificate_finder.specs.Warming.{IsUnput, IsWarm, IsWarmed, PutsAt, warm_put, warm_puts}
 use Rattle.certificate_finder.proofs.Listing.{all_from_at}

@@ -40,3 +40,4 @@ mod WarmLemmas
 mod WarmingLemmas
 mod ColdLemmas
 mod PastLemmas
+mod UnreadLaws

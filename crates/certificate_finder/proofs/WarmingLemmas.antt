@@ -1,6 +1,6 @@
 -- The values that are taken as there from the start, in numbers and back.
 use Rattle.std.proofs.Common.{◌≡◌, ℕ, ◌+◌, ◌*◌, ◌^◌, ◌<◌, ◌≤◌, ◌⊎◌, Some, List, [], ◌∷◌, ◌++◌, length, map, replicate, take, refl, sym, ap, ◌∙◌, subst, arith, inl, inr}
-use Rattle.std.specs.Prelude.{All, AllPairs, Contains, slice_get}
+use Rattle.std.specs.Prelude.{All, slice_get}
 use Rattle.std.specs.Option.{option_map_or}
 use Rattle.std.proofs.lemmas.Bool.{cases_eq, cases_lt}
 use Rattle.std.proofs.lemmas.List.{get_or-replicate, length-replicate, map-append}
@@ -17,7 +17,6 @@ use Rattle.certificate_checker.proofs.public_laws.Listing.{Member, all_member, m
 use Rattle.certificate_checker.proofs.public_laws.Lookups.{in_order_next}
 use Rattle.certificate_finder.specs.declared.numbered_call.NumberedCall.{NumberedCall}
 use Rattle.certificate_finder.specs.declared.warmed.Warmed.{Warmed}
-use Rattle.certificate_finder.specs.Choosing.{IsEarlierBy}
 use Rattle.certificate_finder.specs.Lists.{AreAllBelow}
 use Rattle.certificate_finder.specs.Steps.{AreSteps, IsWriting, kind_of}
 use Rattle.certificate_finder.specs.Turns.{start_at}

@@ -22,6 +22,7 @@ pub mod Steps
 pub mod Trees
 pub mod Trying
 pub mod Turns
+pub mod Unread
 pub mod WarmLaws
 pub mod WarmSteps
 pub mod Warming

@@ -64,7 +64,7 @@ pub use finding_faults::{find_faults, find_faults_with_hasher};
 pub use found::Found;
 pub use laws::{
     accepted_stays_cold, keys_are_warmed_once, lawful_by_keys, past_stays_accepted,
-    sorted_spots_are_accepted, stale_stays_wrong, witness_excludes,
+    sorted_spots_are_accepted, stale_stays_wrong, unread_excludes, witness_excludes,
 };
 pub use warmed::Warmed;
 pub use warming::{WARM_CALLER, warm, warm_with_hasher};

@@ -1,6 +1,5 @@
-use Rattle.std.proofs.Common.{length, sym, ap, ◌∙◌, arith}
+use Rattle.std.proofs.Common.{sym, ap, ◌∙◌, arith}
 use Rattle.std.specs.Prelude.{slice_get}
-use Rattle.certificate_finder.specs.declared.numbered_call.NumberedCall.{NumberedCall}
 use Rattle.certificate_finder.specs.WarmSteps.{IsWriteEnd}
 use Rattle.certificate_finder.specs.Writing.{Writing}
 use Rattle.certificate_finder.proofs.WarmLemmas.{least_all, least_begins, least_more, rank_once}

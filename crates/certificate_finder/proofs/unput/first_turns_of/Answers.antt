@@ -1,6 +1,5 @@
-use Rattle.std.proofs.Common.{length, sym, ap, ◌∙◌, arith}
+use Rattle.std.proofs.Common.{sym, ap, ◌∙◌, arith}
 use Rattle.std.specs.Prelude.{slice_get}
-use Rattle.certificate_finder.specs.declared.numbered_call.NumberedCall.{NumberedCall}
 use Rattle.certificate_finder.specs.WarmSteps.{IsTurn, IsUnlisted, turn_at}
 use Rattle.certificate_finder.proofs.WarmLemmas.{least_all, least_begins, least_more, rank_once}
 use Rattle.certificate_finder.proofs.unput.first_turns_of.Goals as goal

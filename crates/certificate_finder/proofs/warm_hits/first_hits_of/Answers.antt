@@ -1,4 +1,3 @@
-use Rattle.trace_file.specs.Lent.{call_shown}
 use Rattle.certificate_finder.specs.WarmSteps.{IsWarmStep}
 use Rattle.certificate_finder.proofs.Listing.{all_below_if}
 use Rattle.certificate_finder.proofs.WarmLemmas.{first_from, warm_of}

@@ -1,4 +1,3 @@
-use Rattle.std.proofs.Common.{refl}
 use Rattle.certificate_finder.proofs.WarmLemmas.{first_test}
 use Rattle.certificate_finder.proofs.warm_hits.is_first_of.Goals as goal
 

@@ -1,6 +1,5 @@
-use Rattle.std.proofs.Common.{◌≡◌, ◌+◌, ◌++◌, ◌∷◌, [], List, ap, sym, ◌∙◌, take, length, arith}
+use Rattle.std.proofs.Common.{◌++◌, ◌∷◌, [], ap, sym, ◌∙◌, arith}
 use Rattle.trace_file.specs.Lent.{call_shown}
-use Rattle.trace_file.specs.declared.call.Call.{Call}
 use Rattle.std.proofs.lemmas.List.{take_all}
 use Rattle.certificate_finder.specs.Warming.{warm_put, warm_puts}
 use Rattle.certificate_finder.proofs.WarmingLemmas.{puts_next}

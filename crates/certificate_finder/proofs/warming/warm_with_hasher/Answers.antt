@@ -2,7 +2,6 @@ use Rattle.std.proofs.Common.{◌≡◌, ◌<◌, ℕ, List, length, sym, subst,
 use Rattle.std.specs.Prelude.{All, slice_get}
 use Rattle.std.specs.List.{filter_map}
 use Rattle.trace_file.specs.declared.call.Call.{Call}
-use Rattle.certificate_finder.specs.Warming.{warm_puts}
 use Rattle.certificate_finder.proofs.WarmingLemmas.{are_warm, is_warmed, puts_end}
 use Rattle.certificate_finder.proofs.warming.warm_with_hasher.Goals as goal
 

@@ -1,6 +1,4 @@
-use Rattle.std.proofs.Common.{List, ◌++◌, ap, ◌∙◌}
-use Rattle.std.specs.Prelude.{length}
-use Rattle.trace_file.specs.Ending.{each_ending}
+use Rattle.std.proofs.Common.{◌++◌, ap, ◌∙◌}
 use Rattle.certificate_finder.proofs.WarmingLemmas.{ends_kept}
 use Rattle.certificate_finder.proofs.warming.with_puts.Goals as goal
 
