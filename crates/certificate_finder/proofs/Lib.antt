@@ -41,3 +41,6 @@ mod WarmingLemmas
 mod ColdLemmas
 mod PastLemmas
 mod UnreadLaws
+mod TopLemmas
+mod IfReadLemmas
+mod UnreadLemmas

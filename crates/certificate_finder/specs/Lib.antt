@@ -23,6 +23,7 @@ pub mod Trees
 pub mod Trying
 pub mod Turns
 pub mod Unread
+pub mod Unreading
 pub mod WarmLaws
 pub mod WarmSteps
 pub mod Warming
