@@ -97,7 +97,7 @@ module _ (steps : List NumberedCall) (puts : List Put) (are : ArePuts steps puts
       let t = told_at k put at_k in
       can_read steps t.position t.step asked put fit.start t.told (reads_told k put at_k reads).may
 
-  live_at : (k : ℕ) (put : Put) → slice_get puts k ≡ Some put → ReadsIn steps hit put.position → IsTrue (is_live put.expires asked.time)
+  pub live_at : (k : ℕ) (put : Put) → slice_get puts k ≡ Some put → ReadsIn steps hit put.position → IsTrue (is_live put.expires asked.time)
   live_at k put at_k reads = subst (λ e. IsTrue (is_live e asked.time)) (sym (told_at k put at_k).told.expires) (reads_told k put at_k reads).live
 
   -- a put of a later rank than the hit's end has is none that it can have read

@@ -3,7 +3,7 @@ use Rattle.std.proofs.Common.{◌≡◌, ℕ, ◌<◌, ◌≤◌, IsTrue, Some, 
 use Rattle.std.specs.Prelude.{slice_get, IsSomeAnd, All, map}
 use Rattle.std.proofs.lemmas.Bool.{cases_lt}
 use Rattle.record_pages.specs.Expiry.{is_live}
-use Rattle.trace_file.specs.declared.act.Act.TheVariants.{Put}
+use Rattle.trace_file.specs.declared.act.Act.TheVariants.{Put, Hit}
 use Rattle.trace_file.specs.declared.call.Call.{Call}
 use Rattle.certificate_checker.specs.Acceptance.{IsAccepted}
 use Rattle.certificate_checker.specs.Deeds.{deed_of}
@@ -40,7 +40,7 @@ not_this history hit put value moment expires position at is behind live stands 
     not_excused history hit put moment expires behind live stands one.why (subst (λ e. Excludes history hit put moment e one.why) expiry (subst (λ p. Excludes history hit p moment excluded.expires one.why) same excluded.why))
 
 -- a write's place, and the place of a call that goes with it: no other write of the key stands from the one to the other
-record Stretch (history : List Call) (certificate : List ℕ) (write call : ℕ) (key : List ℕ) : Type 0 where
+pub record Stretch (history : List Call) (certificate : List ℕ) (write call : ℕ) (key : List ℕ) : Type 0 where
   pub first : ℕ
   pub last : ℕ
   pub first_at : slice_get certificate first ≡ Some write
@@ -63,7 +63,35 @@ module _ (history : List Call) (certificate : List ℕ) (a : IsAccepted history 
       let excluded = all_member (IsExcluded history none.call none.value none.moment) puts listed.0 none.excluded listed.1 in
       not_this history none.call read.put none.value none.moment read.expires read.position read.at read.is from read.live between listed.0 listed.2 excluded
 
-  stretch : (key : List ℕ) (write : ℕ) (written : Call) (call : ℕ) → slice_get history write ≡ Some written → Writes (deed_of written) key → GoesWith history write call → Stretch history certificate write call key
+  -- a write and a hit that read it
+  pub stretch_read : (key : List ℕ) (write : ℕ) (written : Call) (call : ℕ) (hit : Call) (value : List ℕ) (moment : ℕ) (place : ℕ) (at_place : slice_get certificate place ≡ Some call) (found : slice_get history call ≡ Some hit) (is : hit.act ≡ Hit value moment) → slice_get history write ≡ Some written → Writes (deed_of written) key → (reads history certificate a place call hit value moment at_place found is).position ≡ write → Stretch history certificate write call key
+  stretch_read key write written call hit value moment place at_place found is at writes it =
+      let read = reads history certificate a place call hit value moment at_place found is in
+      let first = placed_at history certificate a write written at in
+      let here : read.from ≡ first.0 = one_place history certificate a read.from first.0 write (read.placed ∙ ap Some it) first.1 in
+      let both : Some read.put ≡ Some written = sym read.at ∙ ap (slice_get history) it ∙ at in
+      let one : read.put ≡ written = cc in
+      let keys : hit.key ≡ key = sym read.one_key ∙ ap (λ (c : Call). c.key) one ∙ writes.0 in
+      let before = read.earlier in
+      record {
+        first = first.0;
+        last = place;
+        first_at = first.1;
+        last_at = at_place;
+        in_order = omega (arith, here, before);
+        unwritten = λ j q other less lower at_j at_q wrote. elim (cases_lt j place) [
+          | inl under ↦ read.unwritten j q other (omega (arith, less, here)) under at_j at_q (wrote.0 ∙ sym keys, wrote.1)
+          | inr enough ↦
+              let last : j ≡ place = omega (arith, lower, enough) in
+              let position : Some q ≡ Some call = sym at_j ∙ ap (slice_get certificate) last ∙ at_place in
+              let calls : q ≡ call = cc in
+              let others : Some other ≡ Some hit = sym at_q ∙ ap (slice_get history) calls ∙ found in
+              let that : other ≡ hit = cc in
+              no_write other.act value moment (ap (λ (c : Call). c.act) that ∙ is) wrote.1
+        ];
+      }
+
+  pub stretch : (key : List ℕ) (write : ℕ) (written : Call) (call : ℕ) → slice_get history write ≡ Some written → Writes (deed_of written) key → GoesWith history write call → Stretch history certificate write call key
   stretch key write written call at writes goes =
       let first = placed_at history certificate a write written at in
       elim goes [
@@ -79,29 +107,20 @@ module _ (history : List Call) (certificate : List ℕ) (a : IsAccepted history 
             let place = placed_at history certificate a call hit.0 hit.3 in
             let read = reads history certificate a place.0 call hit.0 hit.1 hit.2 place.1 hit.3 hit.4 in
             let could = could_read history certificate a place.0 call hit.0 hit.1 hit.2 place.1 hit.3 hit.4 in
-            let it : read.position ≡ write = hit.5 read.position could in
-            let here : read.from ≡ first.0 = one_place history certificate a read.from first.0 write (read.placed ∙ ap Some it) first.1 in
-            let both : Some read.put ≡ Some written = sym read.at ∙ ap (slice_get history) it ∙ at in
-            let one : read.put ≡ written = cc in
-            let keys : hit.0.key ≡ key = sym read.one_key ∙ ap (λ (c : Call). c.key) one ∙ writes.0 in
-            let before = read.earlier in
-            record {
-              first = first.0;
-              last = place.0;
-              first_at = first.1;
-              last_at = place.1;
-              in_order = omega (arith, here, before);
-              unwritten = λ j q other less lower at_j at_q wrote. elim (cases_lt j place.0) [
-                | inl under ↦ read.unwritten j q other (omega (arith, less, here)) under at_j at_q (wrote.0 ∙ sym keys, wrote.1)
-                | inr enough ↦
-                    let last : j ≡ place.0 = omega (arith, lower, enough) in
-                    let position : Some q ≡ Some call = sym at_j ∙ ap (slice_get certificate) last ∙ place.1 in
-                    let calls : q ≡ call = cc in
-                    let found : Some other ≡ Some hit.0 = sym at_q ∙ ap (slice_get history) calls ∙ hit.3 in
-                    let that : other ≡ hit.0 = cc in
-                    no_write other.act hit.1 hit.2 (ap (λ (c : Call). c.act) that ∙ hit.4) wrote.1
-              ];
-            }
+            stretch_read key write written call hit.0 hit.1 hit.2 place.0 place.1 hit.3 hit.4 at writes (hit.5 read.position could)
+      ]
+
+  -- a write does not stand before another one, if a call that goes with that one precedes a call that goes with it
+  pub not_ahead : (key : List ℕ) (one other late early : ℕ) (written : Call) (i j : ℕ) → Stretch history certificate one late key → Stretch history certificate other early key → slice_get history other ≡ Some written → Writes (deed_of written) key → IsSomeAnd (slice_get history early) (λ e. IsSomeAnd (slice_get history late) (λ l. Precedes e l)) → slice_get certificate i ≡ Some one → slice_get certificate j ≡ Some other → ¬ (i < j)
+  not_ahead key one other late early written i j own others at writes precedes at_i at_j less =
+      let from : own.first ≡ i = one_place history certificate a own.first i one own.first_at at_i in
+      let to : others.first ≡ j = one_place history certificate a others.first j other others.first_at at_j in
+      let e = some_and (slice_get history early) (λ e. IsSomeAnd (slice_get history late) (λ l. Precedes e l)) precedes in
+      let l = some_and (slice_get history late) (λ l. Precedes e.0 l) e.2 in
+      let up = others.in_order in
+      elim (cases_lt own.last j) [
+        | inl under ↦ agrees_at history certificate a own.last others.last late early l.0 e.0 (omega (arith, under, up, to)) own.last_at others.last_at l.1 e.1 l.2
+        | inr enough ↦ own.unwritten j other written (omega (arith, less, from)) enough at_j at writes
       ]
 
   -- the write of the first side does not stand before the other's
@@ -111,15 +130,7 @@ module _ (history : List Call) (certificate : List ℕ) (a : IsAccepted history 
       let w = some_and (slice_get history other.write) (λ write. Writes (deed_of write) key) second.writes in
       let own = stretch key one.write v.0 one.late v.1 v.2 first.late_goes in
       let others = stretch key other.write w.0 other.early w.1 w.2 second.early_goes in
-      let from : own.first ≡ i = one_place history certificate a own.first i one.write own.first_at at_i in
-      let to : others.first ≡ j = one_place history certificate a others.first j other.write others.first_at at_j in
-      let early = some_and (slice_get history other.early) (λ early. IsSomeAnd (slice_get history one.late) (λ late. Precedes early late)) second.precedes in
-      let late = some_and (slice_get history one.late) (λ late. Precedes early.0 late) early.2 in
-      let up = others.in_order in
-      elim (cases_lt own.last j) [
-        | inl under ↦ agrees_at history certificate a own.last others.last one.late other.early late.0 early.0 (omega (arith, under, up, to)) own.last_at others.last_at late.1 early.1 late.2
-        | inr enough ↦ own.unwritten j other.write w.0 (omega (arith, less, from)) enough at_j w.1 w.2
-      ]
+      not_ahead key one.write other.write one.late other.early w.0 i j own others w.1 w.2 second.precedes at_i at_j less
 
   not_crossed : (one other : Side) → ¬ AreCrossed history one other
   not_crossed one other c =

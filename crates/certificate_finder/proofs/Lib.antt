@@ -36,3 +36,11 @@ mod TryingLemmas
 mod FaultLemmas
 mod WrongLemmas
 mod CrossedLemmas
+mod WarmLemmas
+mod WarmingLemmas
+mod ColdLemmas
+mod PastLemmas
+mod UnreadLaws
+mod TopLemmas
+mod IfReadLemmas
+mod UnreadLemmas

@@ -22,6 +22,11 @@ pub mod Steps
 pub mod Trees
 pub mod Trying
 pub mod Turns
+pub mod Unread
+pub mod Unreading
+pub mod WarmLaws
+pub mod WarmSteps
+pub mod Warming
 pub mod Witnesses
 pub mod Writing
 pub mod Zones

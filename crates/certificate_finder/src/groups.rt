@@ -8,6 +8,7 @@ use crate::numbered_call::{NumberedCall, step_at};
 use crate::numbers::number_at;
 use crate::offer::Offer;
 use crate::rule::Rule;
+use crate::witness::Side;
 use std::alloc::{AllocError, Global};
 
 /// For each call the position of the one that it goes with, and for each position the calls of its zone.
@@ -24,6 +25,7 @@ pub(crate) struct Groups {
 impl Groups {
     ghost use Rattle.certificate_finder.specs.Choosing.{IsOffer};
     ghost use Rattle.certificate_finder.specs.Offering.{AreGroups, times_in};
+    ghost use Rattle.certificate_finder.specs.Unreading.{IsSideIf};
 
     /// The groups of these owners.
     pub(crate) fn of(
@@ -72,6 +74,25 @@ impl Groups {
             put,
             start: given.start,
             cost,
+        }
+    }
+
+    /// A put with the calls that would go with it, if a hit read it: which of them ends first, and which starts last.
+    pub(crate) fn side_if(&self, steps: &[NumberedCall], hit: u32, put: u32) -> Side
+        requires groups { AreGroups steps.now self.now }
+        requires hit { hit < length steps.now }
+        requires put { put < length steps.now }
+        ensures { IsSideIf steps.now self.now.owners.items hit put result }
+    {
+        let step = step_at(steps, hit as usize);
+        let known = number_at(self.earliest.as_slice(), put as usize);
+        let early = earlier(steps, known, hit, &step);
+        let noted = number_at(self.latest.as_slice(), put as usize);
+        let late = later(steps, noted, hit, &step);
+        Side {
+            write: put,
+            early,
+            late,
         }
     }
 

@@ -3,6 +3,7 @@
 
 mod asked;
 mod best;
+mod by_ends;
 mod call_kind;
 mod call_span;
 mod choosing;
@@ -16,11 +17,13 @@ mod excuses;
 mod faults;
 mod finding;
 mod finding_faults;
+mod finding_unread;
 mod flags;
 mod found;
 mod groups;
 mod hit_reads;
 mod hits;
+mod if_read;
 mod in_turn;
 mod laws;
 mod leaves;
@@ -46,6 +49,11 @@ mod rule;
 mod stamp;
 mod tree;
 mod tree_shape;
+mod unput;
+mod unread_hit;
+mod warm_hits;
+mod warmed;
+mod warming;
 mod witness;
 mod write;
 mod writes;
@@ -57,6 +65,13 @@ pub use excluded::{Excluded, Excuse};
 pub use faults::{CrossedWrites, Faults, WrongHit};
 pub use finding::{MAX_CALLS, find, find_with_hasher};
 pub use finding_faults::{find_faults, find_faults_with_hasher};
+pub use finding_unread::{find_unread, find_unread_with_hasher};
 pub use found::Found;
-pub use laws::{lawful_by_keys, sorted_spots_are_accepted, witness_excludes};
+pub use laws::{
+    accepted_stays_cold, keys_are_warmed_once, lawful_by_keys, past_stays_accepted,
+    sorted_spots_are_accepted, stale_stays_wrong, unread_excludes, witness_excludes,
+};
+pub use unread_hit::UnreadHit;
+pub use warmed::Warmed;
+pub use warming::{WARM_CALLER, warm, warm_with_hasher};
 pub use witness::{Side, Witness};

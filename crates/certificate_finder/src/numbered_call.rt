@@ -29,6 +29,7 @@ impl NumberedCall {
     ghost use Rattle.trace_file.specs.Lent.{call_shown};
     ghost use Rattle.certificate_finder.specs.Offering.{stamp_of};
     ghost use Rattle.certificate_finder.specs.Steps.{IsStep};
+    ghost use Rattle.certificate_finder.specs.WarmSteps.{pair_of};
 
     /// The call with these numbers.
     pub(crate) fn of(call: &CallRef<'_>, key: u32, value: u32) -> NumberedCall
@@ -55,6 +56,13 @@ impl NumberedCall {
             Stamp::Start => self.start,
             Stamp::End => self.end,
         }
+    }
+
+    /// The numbers of its key and its value, in one.
+    pub(crate) fn pair(&self) -> u64
+        ensures { result ≡ pair_of self.now }
+    {
+        self.key as u64 * 4294967296 + self.value as u64
     }
 
     /// When it started and ended.

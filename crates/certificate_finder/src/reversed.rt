@@ -22,7 +22,7 @@ pub(crate) fn reversed_of(alloc: Global, history: &History) -> Result<Vec<u32>, 
 }
 
 /// Lists a position, if a test holds.
-fn list_if(positions: &mut Vec<u32>, position: u32, test: bool) -> Result<(), AllocError>
+pub(crate) fn list_if(positions: &mut Vec<u32>, position: u32, test: bool) -> Result<(), AllocError>
     ensures { OnOk result (GrowsIf test position positions.old.items positions.new.items) }
 {
     if test {

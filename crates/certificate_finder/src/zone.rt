@@ -2,6 +2,7 @@
 ghost use Rattle.std.specs.Prelude.{◌≡◌, ◌<◌, Some, length, slice_get};
 
 use crate::witness::Side;
+use crate::write::key_rank;
 
 /// A write with the hits that can have read it alone: from the least end of one to the greatest start of one.
 #[derive(Clone, Copy)]
@@ -21,6 +22,7 @@ pub(crate) struct Zone {
 }
 
 impl Zone {
+    ghost use Rattle.certificate_finder.specs.Unreading.{end_rank};
     ghost use Rattle.certificate_finder.specs.Zones.{zone_rank};
 
     /// By keys, and within a key by the middle between the least end and the greatest start.
@@ -28,6 +30,13 @@ impl Zone {
         ensures { result ≡ zone_rank self.now }
     {
         self.key as u128 * 36893488147419103232 + (self.end as u128 + self.start as u128)
+    }
+
+    /// By keys, and within a key by the least end.
+    pub(crate) fn rank_by_end(&self) -> u128
+        ensures { result ≡ end_rank self.now }
+    {
+        key_rank(self.key, self.end)
     }
 
     /// The write with its two calls, for a witness.

@@ -1,0 +1,12 @@
+// A hit that can have read none of its puts, since each would be crossed.
+use crate::faults::CrossedWrites;
+
+/// A hit that read no put: whichever it read, two writes of its key would each have to stand before the other.
+#[derive(Debug, Drop)]
+pub struct UnreadHit {
+    /// The hit's position.
+    pub hit: u32,
+    /// All puts that the hit can have read, each with what it would be crossed with. The put is the write of the first side, and the hit
+    /// may be one of that side's two calls.
+    pub reads: Vec<CrossedWrites>,
+}
