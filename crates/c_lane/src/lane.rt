@@ -72,7 +72,14 @@ impl<D: PageDevice<4096>> CLane<D> {
         let counted = CountedPages::new(boxed);
         let table_seed = seed.derive(number);
         let back = shape.bring_back;
-        match ServiceLane::with_layout(alloc, &layout, shape.lease_slots, back, counted, table_seed) {
+        match ServiceLane::with_layout(
+            alloc,
+            &layout,
+            shape.lease_slots,
+            back,
+            counted,
+            table_seed,
+        ) {
             Ok(lane) => Ok(CLane {
                 lane,
                 words,

@@ -271,7 +271,10 @@ fn what_is_hit_on_flash_comes_back_until_it_is_written(rt: HostRuntime) -> Resul
     assert_eq!(rt; stray, None);
     let numbers = &counters.numbers;
     assert_eq!(rt; (numbers[COPY_HITS], numbers[BROUGHT_BACK]), (3, 3));
-    assert_eq!(rt; (numbers[MEMORY_HITS], numbers[LOG_HITS], numbers[SET_HITS]), (2, 6, 3));
+    assert_eq!(rt;
+        (numbers[MEMORY_HITS], numbers[LOG_HITS], numbers[SET_HITS]),
+        (2, 6, 3)
+    );
     Ok(())
 }
 
