@@ -38,21 +38,23 @@ impl Rejection {
         }
     }
 
-    /// The answer that was begun with its verdict, and after that its explanation, if that is wanted.
+    /// The answer that was begun with its verdict, and after that its explanation with this text at its end, if that is wanted.
     pub(crate) fn told_behind(
         &self,
         alloc: Global,
         form: Form,
         begun: String,
         explain: bool,
+        more: &str,
     ) -> Result<String, AllocError>
         ensures { IfOk result (λ text.
-            IsBehind form explain self.now (string_bytes begun) (string_bytes text)) }
+            IsBehind form explain more.now self.now (string_bytes begun) (string_bytes text)) }
     {
         if !explain {
             return ended(form, begun);
         }
-        let why = explanation(alloc, &self.scene(), &self.reason)?;
+        let mut why = explanation(alloc, &self.scene(), &self.reason)?;
+        why.push_str(more)?;
         let mut text = begun;
         tell_why(alloc, form, &mut text, why.as_str())?;
         match ended(form, text) {
