@@ -1,6 +1,6 @@
 // What came of judging, as a JUnit file.
 ghost use Rattle.std.specs.Prelude.{◌≡◌, ◌++◌, IfOk, OnOk};
-ghost use Rattle.judge_run.specs.Junit.{IsFailed, IsJunit, accepted_junit, erred_text, failed_text, head_text, inside_text, passed_text, tail_text};
+ghost use Rattle.judge_run.specs.Junit.{IsFailed, IsJunit, accepted_junit, erred_text, failed_text, head_text, inside_text, passed_text, tail_text, undecided_junit};
 
 use crate::outcome::Outcome;
 use crate::rejection::Rejection;
@@ -96,6 +96,14 @@ fn of_accepted(
     }
 }
 
+/// The file of a history with this many undecided hits.
+fn of_undecided(alloc: Global, name: &str, hits: usize) -> Result<Vec<u8>, AllocError>
+    ensures { IfOk result (λ text. text.items ≡ undecided_junit name.now hits) }
+{
+    let why = format!(in alloc; "undecided {hits} hits")?;
+    erred(alloc, name, why.as_str())
+}
+
 /// The file of a history that is rejected.
 fn of_rejected(alloc: Global, name: &str, rejection: &Rejection) -> Result<Vec<u8>, AllocError>
     ensures { IfOk result (λ text. IsFailed name.now rejection.now text.items) }
@@ -121,10 +129,7 @@ pub fn junit_text(
     match outcome {
         Outcome::Accepted(trace) => of_accepted(alloc, name, least, trace.history.len()),
         Outcome::Rejected(rejection) => of_rejected(alloc, name, rejection),
-        Outcome::Undecided(hits) => {
-            let why = format!(in alloc; "undecided {hits} hits")?;
-            erred(alloc, name, why.as_str())
-        }
+        Outcome::Undecided(hits) => of_undecided(alloc, name, *hits),
         Outcome::BadLine(bad) => {
             let why = format!(in alloc; "{bad}")?;
             erred(alloc, name, why.as_str())
