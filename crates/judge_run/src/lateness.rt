@@ -77,14 +77,22 @@ fn between(start: Option<u64>, end: Option<u64>) -> Option<u64>
     }
 }
 
+/// Whether one of these puts was not read since it had expired.
+fn any_expired(puts: &[Excluded]) -> bool
+    ensures { result ≡ list_any has_expired puts.now }
+{
+    puts.iter().any(|put| has_expired(put))
+}
+
 /// How late a hit is that can't have read these puts, if that is known.
 fn late_hit(history: &History, hit: u32, puts: &[Excluded]) -> Option<u64>
     ensures { result ≡ late_hit history.now hit puts.now }
 {
-    if puts.iter().any(|put| has_expired(put)) {
-        return None;
+    if any_expired(puts) {
+        None
+    } else {
+        between(start_at(history, hit), end_of_last(history, puts))
     }
-    between(start_at(history, hit), end_of_last(history, puts))
 }
 
 /// How late the hit of a fault is: from the end of the last write that replaced one of the puts that it can have read to its start,

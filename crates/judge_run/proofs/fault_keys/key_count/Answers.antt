@@ -1,6 +1,7 @@
 -- One key more, and how many there are.
-use Rattle.std.proofs.Common.{◌≡◌, ◌∙◌, ap, arith, sym, subst, take}
+use Rattle.std.proofs.Common.{◌≡◌, ◌∙◌, Some, ap, arith, sym, subst, take}
 use Rattle.std.proofs.lemmas.List.{take_all}
+use Rattle.std.proofs.lemmas.Option.{slice_get-get_or}
 use Rattle.judge_run.specs.Listing.{HasKeys, key_count, keys_of}
 use Rattle.judge_run.specs.Telling.{key_at}
 use Rattle.judge_run.proofs.KeyLaws.{count_is, keys_next, one_more}
@@ -12,7 +13,7 @@ loop-fault-preserved g c =
     let faults = c.args.faults.now in
     let i = c.loop-fault.fault-index in
     subst (λ words. HasKeys c.insert.new.self words)
-    (sym (keys_next history faults i c.fault-item.result c.key_at-bytes.result.now c.fault-item.is (c.key_at-bytes.ensures ∙ ap (key_at history) c.first_position.ensures)))
+    (sym (keys_next history faults i c.fault-item.result c.key_at-bytes.result.now (slice_get-get_or faults i c.fault-item.result (omega arith) ∙ ap Some (sym c.fault-item.is)) (c.key_at-bytes.ensures ∙ ap (key_at history) c.first_position.ensures)))
     (one_more c.loop-fault.keys c.insert.new.self (record { bytes = c.key_at-bytes.result }) (keys_of history (take i faults)) c.in_ok-insert.ensures.updates.0 c.loop-fault.invariant)
 
 pub returns : goal.returns

@@ -1,5 +1,5 @@
 -- The report on a history that is rejected, part by part.
-use Rattle.std.proofs.Common.{◌≡◌, ◌∙◌, ℕ, Bool, List, ap, length, string_bytes, subst}
+use Rattle.std.proofs.Common.{◌≡◌, ◌∙◌, ℕ, Bool, List, ap, arith, length, string_bytes, subst}
 use Rattle.figures.specs.declared.form.Form.{Form}
 use Rattle.history_text.specs.Text.{text_by}
 use Rattle.judge_run.specs.CallObjects.{with_calls}
@@ -27,10 +27,11 @@ returns g c =
     c.in_ok-begun-2.ensures
     ∙ ap (λ fs. listed form c.args.detail.all calls lines fs (string_bytes c.in_ok-begun.begun)) c.deref-2.ensures.value
     ∙ ap (listed form c.args.detail.all calls lines faults) begun in
+    let count : c.len.result ≡ length faults = omega (arith, c.len.ensures, c.args.list.now.faults.ok.0) in
     let more =
     c.as_str.ensures.value
     ∙ c.in_ok-more.ensures
-    ∙ ap (λ n. more_text n c.args.list.now.keys) c.len.ensures
+    ∙ ap (λ n. more_text n c.args.list.now.keys) count
     ∙ ap (more_text (length faults)) c.requires.list.keys in record {
       text_is = ap (λ names. text_by calls lines names) (c.in_ok-copy_names.ensures ∙ c.names.ensures);
       witness = c.args.witness;
