@@ -25,12 +25,7 @@ fn act_word(act: &ActRef<'_>) -> &'static str
 }
 
 /// Tells a value.
-fn tell_value(
-    alloc: Global,
-    form: Form,
-    text: &mut String,
-    value: &[u8],
-) -> Result<(), AllocError>
+fn tell_value(alloc: Global, form: Form, text: &mut String, value: &[u8]) -> Result<(), AllocError>
     ensures { OnOk result (string_bytes text.new
         ≡ with_rows form (string_bytes text.old) (value_rows value.now)) }
 {

@@ -9,7 +9,8 @@ use history_picture::explanation;
 use std::alloc::{AllocError, Global};
 
 /// What a file of one test begins with.
-const HEAD: &str = "<?xml version=\"1.0\" encoding=\"UTF-8\"?>\n<testsuites>\n<testsuite name=\"kangaroo judge\" tests=\"1\" ";
+const HEAD: &str =
+    "<?xml version=\"1.0\" encoding=\"UTF-8\"?>\n<testsuites>\n<testsuite name=\"kangaroo judge\" tests=\"1\" ";
 
 /// What stands before the name of the test.
 const NAMED: &str = ">\n<testcase classname=\"kangaroo judge\" name=\"";
@@ -39,12 +40,7 @@ fn push_tail(text: &mut Vec<u8>, after: &str) -> Result<(), AllocError>
 }
 
 /// Appends what came of the test: this before a text, the text, and this after it.
-fn push_inside(
-    text: &mut Vec<u8>,
-    before: &str,
-    why: &str,
-    after: &str,
-) -> Result<(), AllocError>
+fn push_inside(text: &mut Vec<u8>, before: &str, why: &str, after: &str) -> Result<(), AllocError>
     ensures { OnOk result (text.new.items ≡ text.old.items ++ inside_text before.now why.now after.now) }
 {
     push_bytes(text, before)?;
@@ -66,7 +62,12 @@ fn failed(alloc: Global, name: &str, why: &str) -> Result<Vec<u8>, AllocError>
     ensures { IfOk result (λ text. text.items ≡ failed_text name.now why.now) }
 {
     let mut text = head(alloc, "failures=\"1\" errors=\"0\"", name)?;
-    push_inside(&mut text, "<failure message=\"rejected\">", why, "</failure>")?;
+    push_inside(
+        &mut text,
+        "<failure message=\"rejected\">",
+        why,
+        "</failure>",
+    )?;
     Ok(text)
 }
 
@@ -80,12 +81,7 @@ fn erred(alloc: Global, name: &str, why: &str) -> Result<Vec<u8>, AllocError>
 }
 
 /// The file of a history that is accepted and has this many calls, if it has to have so many.
-fn of_accepted(
-    alloc: Global,
-    name: &str,
-    least: usize,
-    calls: usize,
-) -> Result<Vec<u8>, AllocError>
+fn of_accepted(alloc: Global, name: &str, least: usize, calls: usize) -> Result<Vec<u8>, AllocError>
     ensures { IfOk result (λ text. text.items ≡ accepted_junit name.now least calls) }
 {
     if calls < least {

@@ -5,7 +5,9 @@ ghost use Rattle.judge_run.specs.Listing.{AreListed, IsListed, crossed_reason, h
 
 use crate::fault_keys::key_count;
 use crate::fault_list::FaultList;
-use certificate_finder::{CrossedWrites, Faults, Found, Witness, WrongHit, find_faults_with_hasher};
+use certificate_finder::{
+    CrossedWrites, Faults, Found, Witness, WrongHit, find_faults_with_hasher,
+};
 use std::alloc::{AllocError, Global};
 use std::hash::BuildHasher;
 use trace_file::History;

@@ -65,7 +65,14 @@ fn tell_rejected<S: BuildHasher>(
         judged.now.faults.faults.items)) }
 {
     form.tell(alloc, text, "verdict", Figure::Word("rejected"))?;
-    tell_reason(alloc, form, text, &judged.text.history, &judged.text.lines, witness)?;
+    tell_reason(
+        alloc,
+        form,
+        text,
+        &judged.text.history,
+        &judged.text.lines,
+        witness,
+    )?;
     let faults = judged.faults.faults.len();
     tell_counts(alloc, form, text, faults, judged.faults.keys)
 }

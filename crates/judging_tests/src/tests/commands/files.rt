@@ -1,7 +1,7 @@
 // Files and standard input that are read, and files that are written.
 use judge_run::{
-    CheckRequest, Detail, JudgeRequest, Scope, ShowRequest, check_with, judge_with, run_check, run_judge,
-    run_show, show_with,
+    CheckRequest, Detail, JudgeRequest, Scope, ShowRequest, check_with, judge_with, run_check,
+    run_judge, run_show, show_with,
 };
 use std::alloc::{AllocError, Global};
 use std::fs;

@@ -141,7 +141,12 @@ fn each_text_has_its_object(rt: HostRuntime) {
 fn trace(alloc: Global) -> Option<Vec<u8>> {
     let mut told: Vec<u8> = Vec::new(alloc);
     let mut bytes: Vec<u8> = Vec::new(alloc);
-    match judged(alloc, "a 1 4 put k v\nb 2 6 hit k v\n", Detail::NONE, &mut told) {
+    match judged(
+        alloc,
+        "a 1 4 put k v\nb 2 6 hit k v\n",
+        Detail::NONE,
+        &mut told,
+    ) {
         Some(Outcome::Accepted(trace)) => {
             match write_trace(&trace.history, &trace.certificate, &mut bytes) {
                 Ok(()) => Some(bytes),

@@ -87,15 +87,7 @@ pub fn want_of_memory_leaves_the_output<S: BuildHasher + Copy + Drop, R: Read>(
 ) -> Result<Outcome, TellFault>
     ensures { result ≡ Err TellFault.OutOfMemory → out.new.items ≡ out.old.items }
 {
-    match answer_judge(
-        alloc,
-        hash_builder,
-        form,
-        Scope::WHOLE,
-        detail,
-        reader,
-        out,
-    ) {
+    match answer_judge(alloc, hash_builder, form, Scope::WHOLE, detail, reader, out) {
         Ok(outcome) => Ok(outcome),
         Err(fault) => Err(fault),
     }

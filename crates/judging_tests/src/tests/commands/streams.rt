@@ -1,6 +1,8 @@
 // Readers and writers that fail.
 use figures::Form;
-use judge_run::{Detail, Outcome, Scope, ShowRequest, TellFault, answer_check, answer_judge, show_with};
+use judge_run::{
+    Detail, Outcome, Scope, ShowRequest, TellFault, answer_check, answer_judge, show_with,
+};
 use std::alloc::{AllocError, Global};
 use std::hash::{BuildHasherDefault, FoldHasher};
 use std::io;
