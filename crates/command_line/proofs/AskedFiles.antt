@@ -1,7 +1,7 @@
 -- What is asked of files, by the rows of what was found.
 use Rattle.std.proofs.Common.{◌≡◌, ◌∙◌, ℕ, Bool, IsSome, List, Option, Some, None, ap, codes, option_map, sym}
 use Rattle.clap.specs.Words.{Row, Text, first_of}
-use Rattle.command_line.specs.CommandLine.{Checked, Judged, Shown, Wanted, check_wanted, is_on, judge_wanted_of, show_wanted}
+use Rattle.command_line.specs.CommandLine.{Checked, Judged, Judging, Shown, Wanted, check_wanted, is_on, judge_wanted_of, judging_of, show_wanted}
 
 -- with no file nothing is asked for
 no_file : (f : Text → Wanted) (file : Option Text) → None ≡ file → IsSome (option_map f file) → ⊥
@@ -24,10 +24,10 @@ module _ (rows : List Row) where
         ap (option_map (λ f. Checked f (is_on (codes "explain") rows) (is_on (codes "json") rows) (first_of (codes "picture") rows))) (sym found)
         ∙ (λ i. Some (Checked file (sym e i) (sym j i) (sym p i)))
 
-    pub asks_judging : (least skew : ℕ) (explain json : Bool) (picture trace : Option Text) → explain ≡ is_on (codes "explain") rows → json ≡ is_on (codes "json") rows → picture ≡ first_of (codes "picture") rows → trace ≡ first_of (codes "trace") rows → judge_wanted_of rows least skew ≡ Some (Judged file explain json picture trace least skew)
-    asks_judging least skew explain json picture trace e j p t =
-        ap (option_map (λ f. Judged f (is_on (codes "explain") rows) (is_on (codes "json") rows) (first_of (codes "picture") rows) (first_of (codes "trace") rows) least skew)) (sym found)
-        ∙ (λ i. Some (Judged file (sym e i) (sym j i) (sym p i) (sym t i) least skew))
+    pub asks_judging : (asked : Judging) → asked.file ≡ file → asked.explain ≡ is_on (codes "explain") rows → asked.all ≡ is_on (codes "all") rows → asked.json ≡ is_on (codes "json") rows → asked.picture ≡ first_of (codes "picture") rows → asked.trace ≡ first_of (codes "trace") rows → asked.junit ≡ first_of (codes "junit") rows → judge_wanted_of rows asked.least asked.skew ≡ Some (Judged asked)
+    asks_judging asked f e a j p t u =
+        ap (option_map (λ (name : Text). Judged (judging_of rows asked.least asked.skew name))) (sym found)
+        ∙ (λ i. Some (Judged (record { file = sym f i; explain = sym e i; all = sym a i; json = sym j i; picture = sym p i; trace = sym t i; junit = sym u i; least = asked.least; skew = asked.skew })))
 
     pub asks_showing : (key : Option Text) → key ≡ first_of (codes "key") rows → show_wanted rows ≡ Some (Shown file key)
     asks_showing key k =

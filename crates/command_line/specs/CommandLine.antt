@@ -52,6 +52,10 @@ script_command = new_app (codes "script")
 abbrev pub explain_rule : Rule
 explain_rule = record (new_rule (codes "explain")) { long = Some (codes "explain"); action = Some SetTrue }
 
+-- whether all faults of a rejected history are listed
+abbrev pub all_rule : Rule
+all_rule = record (new_rule (codes "all")) { long = Some (codes "all"); action = Some SetTrue }
+
 -- whether what is reported is a JSON object and not lines
 abbrev pub json_rule : Rule
 json_rule = record (new_rule (codes "json")) { long = Some (codes "json"); action = Some SetTrue }
@@ -63,6 +67,10 @@ picture_rule = record (new_rule (codes "picture")) { long = Some (codes "picture
 -- the file that an accepted history is written to as a trace
 abbrev pub out_rule : Rule
 out_rule = record (new_rule (codes "trace")) { long = Some (codes "trace"); value_names = 1 }
+
+-- the file that what came of judging is written to, as JUnit has it
+abbrev pub junit_rule : Rule
+junit_rule = record (new_rule (codes "junit")) { long = Some (codes "junit"); value_names = 1 }
 
 -- how many calls an accepted history has to have
 abbrev pub least_rule : Rule
@@ -84,9 +92,10 @@ with_history app = with_rule (with_rule (with_rule (with_rule app file_rule) exp
 abbrev pub check_command : App
 check_command = with_history (new_app (codes "check"))
 
--- judge FILE, with two flags and four options
+-- judge FILE, with three flags and five options
 abbrev pub judge_command : App
-judge_command = with_rule (with_rule (with_rule (with_history (new_app (codes "judge"))) out_rule) least_rule) skew_rule
+judge_command =
+    with_rule (with_rule (with_rule (with_rule (with_rule (with_history (new_app (codes "judge"))) all_rule) out_rule) junit_rule) least_rule) skew_rule
 
 -- show FILE, with an option
 abbrev pub show_command : App
@@ -128,9 +137,22 @@ program = with_loads (with_judging scripts_program)
 
 -- ---- what its words ask for
 
+-- a history that is to be judged: its file; whether it is said why it is rejected, whether all its faults are listed, and whether that
+-- is told as a JSON object; the files that a picture of why it is rejected is drawn to, that it is written to as a trace, and that what
+-- came of it is written to as JUnit has it, if they are named; how many calls it has to have if it is accepted; and by how much its stamps may differ from the truth
+pub record Judging : Type 0 where
+  pub file : Text
+  pub explain : Bool
+  pub all : Bool
+  pub json : Bool
+  pub picture : Option Text
+  pub trace : Option Text
+  pub junit : Option Text
+  pub least : ℕ
+  pub skew : ℕ
+
 -- that a script is answered; that the trace in a file of this name is judged, with why it is rejected if the first flag is on, told as
--- a JSON object if the second is, and drawn to this file if one is named; that the history in a file of this name is judged so, and
--- written to this file as a trace if one is named, and has to have so many calls if it is accepted, with stamps that may differ from the truth by so much; that the trace in a file of this name is written as text, only the calls of this
+-- a JSON object if the second is, and drawn to this file if one is named; that a history is judged; that the trace in a file of this name is written as text, only the calls of this
 -- key if one is named; that a load with these numbers, one for each of its settings in their order, is run, told as a JSON object if
 -- the flag is on, over files of this folder or in memory if there is none, and its trace written to a file of this name; or that a
 -- load of a cache that serves is run with such numbers, for so many bytes of flash and of memory if they are given, with keys by Zipf's
@@ -138,7 +160,7 @@ program = with_loads (with_judging scripts_program)
 pub data Wanted : Type 0 where
   Replies : Wanted
   Checked : Text → Bool → Bool → Option Text → Wanted
-  Judged : Text → Bool → Bool → Option Text → Option Text → ℕ → ℕ → Wanted
+  Judged : Judging → Wanted
   Shown : Text → Option Text → Wanted
   Loaded : List ℕ → Bool → Option Text → Text → Wanted
   Served : List ℕ → Option ℕ → Option ℕ → Bool → Bool → Option Text → Wanted
@@ -147,7 +169,17 @@ pub data Wanted : Type 0 where
 abbrev pub wanted_of : Line → Wanted
 wanted_of Script = Replies
 wanted_of (Check request) = Checked request.file request.explain request.json request.picture
-wanted_of (Judge request) = Judged request.file request.explain request.json request.picture request.trace request.at_least request.scope.skew
+wanted_of (Judge request) = Judged (record {
+  file = request.file;
+  explain = request.detail.explain;
+  all = request.detail.all;
+  json = request.json;
+  picture = request.picture;
+  trace = request.trace;
+  junit = request.junit;
+  least = request.at_least;
+  skew = request.scope.skew;
+})
 wanted_of (Show request) = Shown request.file (option_map string_bytes request.key)
 wanted_of (Run load) = Loaded (numbers_of load) load.json load.device load.trace
 wanted_of (Serve load) = Served (served_numbers_of load) load.size load.memory_bytes load.zipf load.json load.device
@@ -181,10 +213,22 @@ least_found rows = number_found_to (codes "at-least") 268435456 rows
 abbrev pub skew_found : List Row → Option ℕ
 skew_found rows = number_found_to (codes "skew") 9223372036854775807 rows
 
--- the judging that was found, of which an accepted history has to have so many calls, with stamps that may differ by so much
+-- the judging that was found of the history in a file, of which an accepted one has to have so many calls, with stamps that may differ by so much
+abbrev pub judging_of : List Row → ℕ → ℕ → Text → Judging
+judging_of rows least skew file = record {
+  file = file;
+  explain = is_on (codes "explain") rows;
+  all = is_on (codes "all") rows;
+  json = is_on (codes "json") rows;
+  picture = first_of (codes "picture") rows;
+  trace = first_of (codes "trace") rows;
+  junit = first_of (codes "junit") rows;
+  least = least;
+  skew = skew;
+}
+
 abbrev pub judge_wanted_of : List Row → ℕ → ℕ → Option Wanted
-judge_wanted_of rows least skew =
-    option_map (λ file. Judged file (is_on (codes "explain") rows) (is_on (codes "json") rows) (first_of (codes "picture") rows) (first_of (codes "trace") rows) least skew) (first_of (codes "FILE") rows)
+judge_wanted_of rows least skew = option_map (λ file. Judged (judging_of rows least skew file)) (first_of (codes "FILE") rows)
 
 -- the same, unless a trace is to be written of calls whose stamps may differ
 abbrev pub judge_wanted_by : List Row → ℕ → ℕ → Option Wanted

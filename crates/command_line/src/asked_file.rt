@@ -7,7 +7,7 @@ use crate::line::Line;
 use crate::line_fault::LineFault;
 use crate::telling::{no_file, no_number_to, not_with_trace};
 use clap::ArgMatches;
-use judge_run::{CheckRequest, JudgeRequest, Scope, ShowRequest};
+use judge_run::{CheckRequest, Detail, JudgeRequest, Scope, ShowRequest};
 use std::alloc::{AllocError, Global};
 use trace_file::FileName;
 
@@ -200,15 +200,18 @@ fn judging_line<'a>(
     };
     let file = FileName::new(alloc, file)?;
     let explain = is_on(found, "explain");
+    let all = is_on(found, "all");
     let json = is_on(found, "json");
     let picture = file_found(alloc, found, "picture")?;
     let trace = file_found(alloc, found, "trace")?;
+    let junit = file_found(alloc, found, "junit")?;
     Ok(Line::Judge(JudgeRequest {
         file,
-        explain,
+        detail: Detail { explain, all },
         json,
         picture,
         trace,
+        junit,
         at_least,
         scope: Scope { skew },
     }))

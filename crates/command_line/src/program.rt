@@ -1,7 +1,7 @@
 // The program's command line, as `clap` reads it.
 ghost use Rattle.std.specs.Prelude.{◌≡◌, IfOk, false};
 ghost use Rattle.clap.specs.Words.{app_of, new_app, rule_of};
-ghost use Rattle.command_line.specs.CommandLine.{check_command, device_rule, explain_rule, file_rule, json_rule, judge_command, key_rule, least_rule, option_rule, out_rule, picture_rule, program, run_command, script_command, scripts_program, serve_command, show_command, size_rule, skew_rule, trace_rule, with_history, with_judging, with_loads, zipf_rule};
+ghost use Rattle.command_line.specs.CommandLine.{all_rule, check_command, device_rule, explain_rule, file_rule, json_rule, judge_command, junit_rule, key_rule, least_rule, option_rule, out_rule, picture_rule, program, run_command, script_command, scripts_program, serve_command, show_command, size_rule, skew_rule, trace_rule, with_history, with_judging, with_loads, zipf_rule};
 
 use crate::help;
 use crate::help::Help;
@@ -90,8 +90,10 @@ pub fn judge<'a>(alloc: Global) -> Result<Command<'a>, AllocError>
 {
     let judge = command(alloc, "judge", &help::JUDGE);
     let judge = with_history(alloc, judge, "File of the text, or - for standard input")?;
-    let traced = judge.arg(out(alloc))?;
-    let counted = traced.arg(at_least(alloc))?;
+    let listed = judge.arg(all(alloc))?;
+    let traced = listed.arg(out(alloc))?;
+    let shown = traced.arg(junit(alloc))?;
+    let counted = shown.arg(at_least(alloc))?;
     counted.arg(skew(alloc))
 }
 
@@ -137,6 +139,17 @@ fn explain<'a>(alloc: Global) -> Arg<'a>
         .help("Explain why the history is rejected, and show the calls around the place")
 }
 
+/// Whether all faults of a rejected history are listed.
+fn all<'a>(alloc: Global) -> Arg<'a>
+    ensures rule { rule_of result ≡ all_rule }
+    ensures local { result.global ≡ false }
+{
+    Arg::new(alloc, "all")
+        .long("all")
+        .action(ArgAction::SetTrue)
+        .help("List all faults of a rejected history, one a line")
+}
+
 /// Whether what is reported is a JSON object and not lines.
 fn json<'a>(alloc: Global) -> Arg<'a>
     ensures rule { rule_of result ≡ json_rule }
@@ -168,6 +181,17 @@ fn out<'a>(alloc: Global) -> Arg<'a>
         .long("trace")
         .value_name("OUT")
         .help("Write an accepted history to this file, as a trace that check accepts")
+}
+
+/// The file that what came of judging is written to, as JUnit has it.
+fn junit<'a>(alloc: Global) -> Arg<'a>
+    ensures rule { rule_of result ≡ junit_rule }
+    ensures local { result.global ≡ false }
+{
+    Arg::new(alloc, "junit")
+        .long("junit")
+        .value_name("OUT")
+        .help("Write what came of it to this file, as a JUnit test that CI systems show")
 }
 
 /// How many calls an accepted history has to have.

@@ -4,3 +4,4 @@ mod ScopeLaws
 mod TraceLines
 mod ShowLaws
 mod FoundLaws
+mod KeyLaws

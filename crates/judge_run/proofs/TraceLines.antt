@@ -31,10 +31,10 @@ alone Lines line rows told is = ([], is ∙ sym (append-nil (line ++ codes "\n")
 alone Json line rows told is = ([], is ∙ ap (text_of_rows Json) (sym (append-nil rows)))
 
 -- the report on a rejection begins so
-begins : (form : Form) (explain : Bool) (rejection : Rejection) (line : List ℕ) (rows : List Row) (told : List ℕ) → IsBehind form explain rejection (begun form (line ++ codes "\n") rows) told → IsBegunBy form line rows told
-begins Lines true rejection line rows told is = (is.why, is.text_is)
+begins : (form : Form) (explain : Bool) (rejection : Rejection) (line : List ℕ) (rows : List Row) (told : List ℕ) → IsBehind form explain [] rejection (begun form (line ++ codes "\n") rows) told → IsBegunBy form line rows told
+begins Lines true rejection line rows told is = (is.why ++ [], is.text_is)
 begins Json true rejection line rows told is =
-    (why_row is.why ∷ [], is.text_is ∙ ap (ended Json) (sym (fold-append (with_row Json) [] rows (why_row is.why ∷ []))))
+    (why_row (is.why ++ []) ∷ [], is.text_is ∙ ap (ended Json) (sym (fold-append (with_row Json) [] rows (why_row (is.why ++ []) ∷ []))))
 begins Lines false rejection line rows told is = alone Lines line rows told is
 begins Json false rejection line rows told is = alone Json line rows told is
 

@@ -11,3 +11,11 @@ pub mod Ends
 pub mod Runs
 pub mod Telling
 pub mod FoundRows
+pub mod ReasonRows
+pub mod Listing
+pub mod Lateness
+pub mod Objects
+pub mod FaultsTold
+pub mod CallObjects
+pub mod Xml
+pub mod Junit

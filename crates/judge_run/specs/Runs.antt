@@ -7,6 +7,7 @@ use Rattle.history_text.specs.declared.text_fault.TextFault.{TextFault}
 use Rattle.history_text.specs.declared.text_fault.TextFault.TheVariants.{Bad}
 use Rattle.history_text.specs.Spelled.{IsSaid}
 use Rattle.history_text.specs.Spelling.{key_of}
+use Rattle.judge_run.specs.declared.detail.Detail.{Detail}
 use Rattle.judge_run.specs.declared.outcome.Outcome.{Outcome}
 use Rattle.judge_run.specs.declared.scope.Scope.{Scope}
 use Rattle.judge_run.specs.declared.shown.Shown.{Shown}
@@ -16,22 +17,22 @@ use Rattle.judge_run.specs.TextTold.{ToldText}
 use Rattle.judge_run.specs.TraceTold.{ToldTrace}
 
 -- the report on a text of these bytes, as it is judged in this scope, was written, and the status is that of its outcome, if an accepted history has to have so many calls
-pub record JudgedOn (form : Form) (scope : Scope) (known : Option (List ℕ)) (explain : Bool) (least : ℕ) (old new : Option (List ℕ)) (status : ℕ) : Type 0 where
+pub record JudgedOn (form : Form) (scope : Scope) (known : Option (List ℕ)) (detail : Detail) (least : ℕ) (old new : Option (List ℕ)) (status : ℕ) : Type 0 where
   pub outcome : Outcome
   pub status_is : status ≡ status_of (end_at_least least outcome)
-  pub told : ToldText form scope known explain outcome old new
+  pub told : ToldText form scope known detail outcome old new
 
 -- this holds for each status but that of a fault
-abbrev pub IsJudgeRunOn : Form → Scope → Option (List ℕ) → Bool → ℕ → Option (List ℕ) → Option (List ℕ) → ℕ → Type 0
-IsJudgeRunOn form scope known explain least old new status = status ≢ 3 → JudgedOn form scope known explain least old new status
+abbrev pub IsJudgeRunOn : Form → Scope → Option (List ℕ) → Detail → ℕ → Option (List ℕ) → Option (List ℕ) → ℕ → Type 0
+IsJudgeRunOn form scope known detail least old new status = status ≢ 3 → JudgedOn form scope known detail least old new status
 
 -- the same of some text
-pub record JudgedWith (form : Form) (scope : Scope) (explain : Bool) (least : ℕ) (old new : Option (List ℕ)) (status : ℕ) : Type 0 where
+pub record JudgedWith (form : Form) (scope : Scope) (detail : Detail) (least : ℕ) (old new : Option (List ℕ)) (status : ℕ) : Type 0 where
   pub known : Option (List ℕ)
-  pub is : JudgedOn form scope known explain least old new status
+  pub is : JudgedOn form scope known detail least old new status
 
-abbrev pub IsJudgeRun : Form → Scope → Bool → ℕ → Option (List ℕ) → Option (List ℕ) → ℕ → Type 0
-IsJudgeRun form scope explain least old new status = status ≢ 3 → JudgedWith form scope explain least old new status
+abbrev pub IsJudgeRun : Form → Scope → Detail → ℕ → Option (List ℕ) → Option (List ℕ) → ℕ → Type 0
+IsJudgeRun form scope detail least old new status = status ≢ 3 → JudgedWith form scope detail least old new status
 
 -- the report on a trace of these bytes, of which those are left, was written, and the status is that of its outcome
 pub record CheckedOn (form : Form) (known left : Option (List ℕ)) (explain : Bool) (old new : Option (List ℕ)) (status : ℕ) : Type 0 where

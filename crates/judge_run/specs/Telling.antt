@@ -68,9 +68,13 @@ key_at calls position = unwrap_or (option_map (λ call. call.key) (slice_get cal
 abbrev pub spaced : List ℕ → List ℕ
 spaced numbers = flat_map (λ n. codes " " ++ decimal n) numbers
 
+-- what a reason speaks of: its kind, its key, and the lines of its calls
+abbrev pub reason_text : List Call → List ℕ → Witness → List ℕ
+reason_text calls lines witness =
+    witness_word witness ++ (codes " key " ++ (word_of (key_at calls (first_position witness)) ++ (codes " lines" ++ spaced (ascending (lines_at lines (witness_positions witness))))))
+
 -- what is said of calls, which stand on these lines, with the line feed
 abbrev pub verdict_text : List Call → List ℕ → Found → List ℕ
 verdict_text calls lines (Accepted certificate) = verdict_line verdicts.Accepted (length calls) ++ codes "\n"
-verdict_text calls lines (Rejected witness) =
-    codes "rejected " ++ witness_word witness ++ codes " key " ++ word_of (key_at calls (first_position witness)) ++ codes " lines" ++ spaced (ascending (lines_at lines (witness_positions witness))) ++ codes "\n"
+verdict_text calls lines (Rejected witness) = codes "rejected " ++ (reason_text calls lines witness ++ codes "\n")
 verdict_text calls lines (Undecided hits) = codes "undecided " ++ decimal (length hits.items) ++ codes " hits\n"

@@ -1,5 +1,5 @@
 -- The report on a history that was written as text.
-use Rattle.std.specs.Prelude.{◌≡◌, ℕ, Bool, List, [], ◌∷◌, ◌++◌, length, codes, Option, IfSome, Ok, Err}
+use Rattle.std.specs.Prelude.{◌≡◌, ℕ, List, [], ◌∷◌, ◌++◌, length, codes, Option, IfSome, Ok, Err}
 use Rattle.std.specs.Fmt.{decimal}
 use Rattle.std.specs.Io.KnownBytes.{Appends, Keeps}
 use Rattle.certificate_checker.specs.Acceptance.{IsAccepted}
@@ -15,13 +15,17 @@ use Rattle.history_picture.specs.Reasons.{reason_of}
 use Rattle.history_text.specs.declared.bad_line.BadLine as bad_lines
 use Rattle.history_text.specs.Causes.{bad_line_text, cause_text}
 use Rattle.history_text.specs.Text.{Text, text_by}
+use Rattle.judge_run.specs.CallObjects.{with_calls}
+use Rattle.judge_run.specs.FaultsTold.{listed, more_text}
 use Rattle.judge_run.specs.FoundRows.{calls_row, found_rows, undecided_rows, verdict_row}
 use Rattle.judge_run.specs.Kinds.{kind_rows}
+use Rattle.judge_run.specs.Listing.{AreListed, key_count}
 use Rattle.judge_run.specs.Scopes.{judged_of}
 use Rattle.judge_run.specs.Telling.{verdict_text}
 use Rattle.trace_file.specs.declared.call.Call.{Call}
 use Rattle.trace_file.specs.declared.trace.Trace.{Trace}
 use Rattle.trace_file.specs.Sending.{Begun}
+use Rattle.judge_run.specs.declared.detail.Detail.{Detail}
 use Rattle.judge_run.specs.declared.outcome.Outcome.{Outcome}
 use Rattle.judge_run.specs.declared.outcome.Outcome.TheVariants.{Accepted, Rejected, Undecided, BadLine, BadTrace}
 use Rattle.judge_run.specs.declared.rejection.Rejection.{Rejection}
@@ -52,13 +56,13 @@ abbrev pub accepted_answer : Form → List Call → List ℕ
 accepted_answer form calls =
     answered form (accepted_text (length calls)) (calls_row (length calls) ∷ (kind_rows calls ++ verdict_row (codes "accepted") ∷ []))
 
--- the answer by what was found for calls, which stand on these lines, begun
-abbrev pub found_begun : Form → List Call → List ℕ → Found → List ℕ
-found_begun form calls lines found = begun form (verdict_text calls lines found) (found_rows calls lines found)
+-- the answer by what was found for calls, which stand on these lines and have these faults, begun
+abbrev pub found_begun : Form → List Call → List ℕ → Found → List Witness → List ℕ
+found_begun form calls lines found faults = begun form (verdict_text calls lines found) (found_rows calls lines found faults)
 
 -- the answer to a history that is rejected, begun
-abbrev pub rejected_begun : Form → Text → Witness → List ℕ
-rejected_begun form text witness = found_begun form text.calls text.lines (found.Rejected witness)
+abbrev pub rejected_begun : Form → Text → Witness → List Witness → List ℕ
+rejected_begun form text witness faults = found_begun form text.calls text.lines (found.Rejected witness) faults
 
 -- the answer to a history of these calls with this many undecided hits
 abbrev pub undecided_answer : Form → List Call → ℕ → List ℕ
@@ -74,13 +78,15 @@ pub record AcceptedTold (form : Form) (text : Text) (trace : Trace) (told : List
   pub accepted : IsAccepted text.calls trace.certificate
   pub told_is : told ≡ accepted_answer form text.calls
 
--- no certificate is accepted, for this reason, and that is reported, with what is wanted after it
-pub record RejectedTold (form : Form) (text : Text) (explain : Bool) (rejection : Rejection) (told : List ℕ) : Type 0 where
+-- no certificate is accepted, for this reason, and that is reported, with what is wanted after it: all faults of the history, and why it is rejected, which ends with how many faults there are
+pub record RejectedTold (form : Form) (text : Text) (detail : Detail) (rejection : Rejection) (told : List ℕ) : Type 0 where
   pub text_is : text_by rejection.history rejection.lines.items (names_of rejection.callers.items) ≡ text
   pub witness : Witness
   pub is : IsWitness text.calls witness
   pub reason_is : rejection.reason ≡ reason_of witness
-  pub behind : IsBehind form explain rejection (rejected_begun form text witness) told
+  pub faults : List Witness
+  pub are_all : AreListed text.calls faults
+  pub behind : IsBehind form detail.explain (more_text (length faults) (key_count text.calls faults)) rejection (listed form detail.all text.calls text.lines faults (with_calls form text.calls text.lines witness (rejected_begun form text witness faults))) told
 
 -- for some hits it was not decided what they read, and their number is reported
 pub record UndecidedTold (form : Form) (text : Text) (count : ℕ) (told : List ℕ) : Type 0 where
@@ -90,18 +96,18 @@ pub record UndecidedTold (form : Form) (text : Text) (count : ℕ) (told : List 
   pub told_is : told ≡ undecided_answer form text.calls (length hits)
 
 -- the report on a history, by the outcome of judging it
-abbrev pub IsHistoryTold : Form → Text → Bool → Outcome → List ℕ → Type 0
-IsHistoryTold form text explain (Accepted trace) told = AcceptedTold form text trace told
-IsHistoryTold form text explain (Rejected rejection) told = RejectedTold form text explain rejection told
-IsHistoryTold form text explain (Undecided hits) told = UndecidedTold form text hits told
-IsHistoryTold form text explain (BadLine bad) told = ⊥
-IsHistoryTold form text explain (BadTrace fault) told = ⊥
+abbrev pub IsHistoryTold : Form → Text → Detail → Outcome → List ℕ → Type 0
+IsHistoryTold form text detail (Accepted trace) told = AcceptedTold form text trace told
+IsHistoryTold form text detail (Rejected rejection) told = RejectedTold form text detail rejection told
+IsHistoryTold form text detail (Undecided hits) told = UndecidedTold form text hits told
+IsHistoryTold form text detail (BadLine bad) told = ⊥
+IsHistoryTold form text detail (BadTrace fault) told = ⊥
 
 -- the bytes, if they are known, spell a history with this report, as it is judged in this scope
-pub record SpelledTold (form : Form) (scope : Scope) (known : Option (List ℕ)) (explain : Bool) (outcome : Outcome) (told : List ℕ) : Type 0 where
+pub record SpelledTold (form : Form) (scope : Scope) (known : Option (List ℕ)) (detail : Detail) (outcome : Outcome) (told : List ℕ) : Type 0 where
   pub text : Text
   pub read : IfSome known (λ bytes. judged_of scope bytes ≡ Ok text)
-  pub is : IsHistoryTold form text explain outcome told
+  pub is : IsHistoryTold form text detail outcome told
 
 -- the bytes, if they are known, have this first bad line, which is reported
 pub record BadTold (form : Form) (scope : Scope) (known : Option (List ℕ)) (bad : bad_lines.BadLine) (told : List ℕ) : Type 0 where
@@ -109,28 +115,28 @@ pub record BadTold (form : Form) (scope : Scope) (known : Option (List ℕ)) (ba
   pub told_is : told ≡ bad_answer form bad
 
 -- the report on the bytes of a text, by the outcome of judging them
-abbrev pub IsTextTold : Form → Scope → Option (List ℕ) → Bool → Outcome → List ℕ → Type 0
-IsTextTold form scope known explain (Accepted trace) told = SpelledTold form scope known explain (Accepted trace) told
-IsTextTold form scope known explain (Rejected rejection) told = SpelledTold form scope known explain (Rejected rejection) told
-IsTextTold form scope known explain (Undecided hits) told = SpelledTold form scope known explain (Undecided hits) told
-IsTextTold form scope known explain (BadLine bad) told = BadTold form scope known bad told
-IsTextTold form scope known explain (BadTrace fault) told = ⊥
+abbrev pub IsTextTold : Form → Scope → Option (List ℕ) → Detail → Outcome → List ℕ → Type 0
+IsTextTold form scope known detail (Accepted trace) told = SpelledTold form scope known detail (Accepted trace) told
+IsTextTold form scope known detail (Rejected rejection) told = SpelledTold form scope known detail (Rejected rejection) told
+IsTextTold form scope known detail (Undecided hits) told = SpelledTold form scope known detail (Undecided hits) told
+IsTextTold form scope known detail (BadLine bad) told = BadTold form scope known bad told
+IsTextTold form scope known detail (BadTrace fault) told = ⊥
 
 -- the report on a text was written, and nothing else
-pub record ToldText (form : Form) (scope : Scope) (known : Option (List ℕ)) (explain : Bool) (outcome : Outcome) (old new : Option (List ℕ)) : Type 0 where
+pub record ToldText (form : Form) (scope : Scope) (known : Option (List ℕ)) (detail : Detail) (outcome : Outcome) (old new : Option (List ℕ)) : Type 0 where
   pub told : List ℕ
-  pub is : IsTextTold form scope known explain outcome told
+  pub is : IsTextTold form scope known detail outcome told
   pub wrote : Appends old new told
 
 -- of the report on a text a front was written, and not all of it
-pub record BeganText (form : Form) (scope : Scope) (known : Option (List ℕ)) (explain : Bool) (old new : Option (List ℕ)) : Type 0 where
+pub record BeganText (form : Form) (scope : Scope) (known : Option (List ℕ)) (detail : Detail) (old new : Option (List ℕ)) : Type 0 where
   pub outcome : Outcome
   pub told : List ℕ
-  pub is : IsTextTold form scope known explain outcome told
+  pub is : IsTextTold form scope known detail outcome told
   pub began : Begun old new told
 
 -- if a text was not reported, or not whole, nothing was written, or a front
-abbrev pub IsTextUntold : Form → Scope → Option (List ℕ) → Bool → Option (List ℕ) → Option (List ℕ) → TellFault → Type 0
-IsTextUntold form scope known explain old new OutOfMemory = Keeps old new
-IsTextUntold form scope known explain old new ReadFault = Keeps old new
-IsTextUntold form scope known explain old new WriteFault = BeganText form scope known explain old new
+abbrev pub IsTextUntold : Form → Scope → Option (List ℕ) → Detail → Option (List ℕ) → Option (List ℕ) → TellFault → Type 0
+IsTextUntold form scope known detail old new OutOfMemory = Keeps old new
+IsTextUntold form scope known detail old new ReadFault = Keeps old new
+IsTextUntold form scope known detail old new WriteFault = BeganText form scope known detail old new

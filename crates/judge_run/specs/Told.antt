@@ -1,5 +1,5 @@
 -- What is reported after the verdict of a history that is rejected.
-use Rattle.std.specs.Prelude.{◌≡◌, ℕ, Bool, true, false, List}
+use Rattle.std.specs.Prelude.{◌≡◌, ℕ, Bool, true, false, List, ◌++◌}
 use Rattle.figures.specs.declared.form.Form.{Form}
 use Rattle.figures.specs.Figures.{ended}
 use Rattle.history_picture.specs.Names.{names_of}
@@ -7,13 +7,13 @@ use Rattle.history_picture.specs.Shown.{IsExplanation}
 use Rattle.judge_run.specs.declared.rejection.Rejection.{Rejection}
 use Rattle.judge_run.specs.Answers.{with_why}
 
--- the text is the answer that was begun, and after it why the history is rejected
-pub record Explained (form : Form) (rejection : Rejection) (begun text : List ℕ) : Type 0 where
+-- the text is the answer that was begun, and after it why the history is rejected, with this text at its end
+pub record Explained (form : Form) (more : List ℕ) (rejection : Rejection) (begun text : List ℕ) : Type 0 where
   pub why : List ℕ
   pub is : IsExplanation rejection.history rejection.lines.items (names_of rejection.callers.items) rejection.reason why
-  pub text_is : text ≡ ended form (with_why form begun why)
+  pub text_is : text ≡ ended form (with_why form begun (why ++ more))
 
 -- the text is the answer that was begun, and after it why the history is rejected, if that is wanted
-abbrev pub IsBehind : Form → Bool → Rejection → List ℕ → List ℕ → Type 0
-IsBehind form true rejection begun text = Explained form rejection begun text
-IsBehind form false rejection begun text = text ≡ ended form begun
+abbrev pub IsBehind : Form → Bool → List ℕ → Rejection → List ℕ → List ℕ → Type 0
+IsBehind form true more rejection begun text = Explained form more rejection begun text
+IsBehind form false more rejection begun text = text ≡ ended form begun

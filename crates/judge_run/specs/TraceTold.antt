@@ -55,7 +55,7 @@ pub record RejectedTold (form : Form) (trace : Trace) (explain : Bool) (rejectio
   pub fault : Fault
   pub first : IsFirstFault trace.history trace.certificate fault
   pub is : IsRejectionOf trace fault rejection
-  pub behind : IsBehind form explain rejection (verdict_begun form (verdicts.Rejected fault) (length trace.history)) told
+  pub behind : IsBehind form explain [] rejection (verdict_begun form (verdicts.Rejected fault) (length trace.history)) told
 
 -- the report on a trace, by the outcome of judging it
 abbrev pub IsPairTold : Form → Trace → Bool → Outcome → List ℕ → Type 0

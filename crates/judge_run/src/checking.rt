@@ -85,7 +85,7 @@ fn told_pair<S: BuildHasher + Drop>(
         }
         Verdict::Rejected(fault) => {
             let rejection = rejection_of(alloc, trace, fault);
-            let text = rejection.told_behind(alloc, form, text, explain)?;
+            let text = rejection.told_behind(alloc, form, text, explain, "")?;
             let outcome = Outcome::Rejected(rejection);
             Ok(JudgeReport { text, outcome })
         }

@@ -1,4 +1,5 @@
 // A text that was judged.
+use crate::fault_list::FaultList;
 use certificate_finder::Found;
 use history_text::TextHistory;
 use std::hash::BuildHasher;
@@ -10,4 +11,6 @@ pub struct JudgedText<S: BuildHasher> {
     pub text: TextHistory<S>,
     /// A certificate with which it is accepted, why there is none, or the hits for which that was not decided.
     pub found: Found,
+    /// All faults of a history that is rejected; none of another one.
+    pub faults: FaultList,
 }

@@ -4,9 +4,11 @@ ghost use Rattle.std.specs.Io.KnownBytes.{IsAtEnd};
 ghost use Rattle.history_text.specs.Outcome.{IsFaultOf, Left};
 ghost use Rattle.history_text.specs.Text.{text_by};
 ghost use Rattle.judge_run.specs.Scopes.{judged_of};
-ghost use Rattle.certificate_finder.specs.Finding.{IsFound};
+ghost use Rattle.certificate_finder.specs.Finding.{IfRejected, IsFound};
+ghost use Rattle.judge_run.specs.Listing.{IsListed};
 
 use crate::judged_text::JudgedText;
+use crate::listing::faults_of;
 use crate::scope::Scope;
 use crate::scoping::scoped;
 use certificate_finder::find_with_hasher;
@@ -15,7 +17,8 @@ use std::alloc::Global;
 use std::hash::BuildHasher;
 use std::io::Read;
 
-/// Reads the history that a text spells, and looks for a certificate with which it is accepted as it is judged in this scope.
+/// Reads the history that a text spells, and looks for a certificate with which it is accepted as it is judged in this scope. If it
+/// is rejected, all its faults are listed.
 ///
 /// A bad line, a failed read and refused memory are faults: see `read_text`. The tables of callers, keys and values hash by
 /// `hash_builder`: whoever wrote the text should not know its seed.
@@ -29,6 +32,8 @@ pub fn judge_text<S: BuildHasher + Copy + Drop, R: Read>(
         judged_of scope bytes
         ≡ Ok (text_by judged.text.history judged.text.lines.items judged.text.callers))) }
     ensures found { IfOk result (λ judged. IsFound judged.text.history judged.found) }
+    ensures faults { IfOk result (λ judged. IfRejected judged.found
+        (λ _. IsListed judged.text.history judged.faults)) }
     ensures as_many { IfOk result (λ judged.
         length judged.text.lines.items ≡ length judged.text.history) }
     ensures end { OnOk result (IsAtEnd (R.remaining reader.new)) }
@@ -44,8 +49,15 @@ pub fn judge_text<S: BuildHasher + Copy + Drop, R: Read>(
     let Ok(text) = scoped(alloc, text, scope) else {
         return Err(ReadTextFault::OutOfMemory);
     };
-    match find_with_hasher(alloc, hash_builder, &text.history) {
-        Ok(found) => Ok(JudgedText { text, found }),
-        Err(_) => Err(ReadTextFault::OutOfMemory),
-    }
+    let Ok(found) = find_with_hasher(alloc, hash_builder, &text.history) else {
+        return Err(ReadTextFault::OutOfMemory);
+    };
+    let Ok(faults) = faults_of(alloc, hash_builder, &text.history, &found) else {
+        return Err(ReadTextFault::OutOfMemory);
+    };
+    Ok(JudgedText {
+        text,
+        found,
+        faults,
+    })
 }

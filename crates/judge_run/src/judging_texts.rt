@@ -1,11 +1,16 @@
 // Judging the history of a text, and telling its verdict.
 ghost use Rattle.std.specs.Prelude.{◌≡◌, ◌≢◌, IfOk, IfErr, string_bytes};
-ghost use Rattle.certificate_finder.specs.Finding.{IsFound};
+ghost use Rattle.certificate_finder.specs.Finding.{IfRejected, IsFound};
 ghost use Rattle.certificate_finder.specs.Witnesses.{IsWitness};
 ghost use Rattle.history_text.specs.Text.{text_by};
+ghost use Rattle.judge_run.specs.Listing.{IsListed};
 ghost use Rattle.judge_run.specs.TextTold.{IsHistoryTold, IsTextTold, IsTextUntold, ToldText, bad_answer, rejected_begun};
 
 use crate::answers::ended;
+use crate::call_objects::with_calls;
+use crate::detail::Detail;
+use crate::fault_list::FaultList;
+use crate::fault_telling::{listed, more_text};
 use crate::judge_report::JudgeReport;
 use crate::judged_text::JudgedText;
 use crate::judging_text::judge_text;
@@ -25,7 +30,7 @@ use std::io::{Read, Write};
 use trace_file::{Trace, Unwritten, write_whole};
 
 /// Judges the history that a text spells in this scope, and tells its verdict in this form. If the history is rejected and that is wanted, it
-/// tells why after the verdict. It flushes nothing. The tables hash by `hash_builder`. Whoever wrote the text should not know its seed.
+/// tells all its faults after the verdict, and then why it is rejected. It flushes nothing. The tables hash by `hash_builder`. Whoever wrote the text should not know its seed.
 ///
 /// Neither a failed read nor a failed write is tried again. If memory or the reader is the fault, nothing was written.
 pub fn answer_judge<S: BuildHasher + Copy + Drop, R: Read, W: Write>(
@@ -33,16 +38,16 @@ pub fn answer_judge<S: BuildHasher + Copy + Drop, R: Read, W: Write>(
     hash_builder: S,
     form: Form,
     scope: Scope,
-    explain: bool,
+    detail: Detail,
     reader: &mut R,
     writer: &mut W,
 ) -> Result<Outcome, TellFault>
-    ensures ok { IfOk result (λ outcome. ToldText form scope (R.remaining reader.old) explain outcome
+    ensures ok { IfOk result (λ outcome. ToldText form scope (R.remaining reader.old) detail outcome
         (W.contents writer.old) (W.contents writer.new)) }
-    ensures err { IfErr result (λ fault. IsTextUntold form scope (R.remaining reader.old) explain
+    ensures err { IfErr result (λ fault. IsTextUntold form scope (R.remaining reader.old) detail
         (W.contents writer.old) (W.contents writer.new) fault) }
 {
-    let told = match told_text(alloc, hash_builder, form, scope, explain, reader) {
+    let told = match told_text(alloc, hash_builder, form, scope, detail, reader) {
         Ok(told) => told,
         Err(fault) => return Err(fault),
     };
@@ -58,15 +63,15 @@ fn told_text<S: BuildHasher + Copy + Drop, R: Read>(
     hash_builder: S,
     form: Form,
     scope: Scope,
-    explain: bool,
+    detail: Detail,
     reader: &mut R,
 ) -> Result<JudgeReport, TellFault>
     ensures ok { IfOk result (λ told.
-        IsTextTold form scope (R.remaining reader.old) explain told.outcome (string_bytes told.text)) }
+        IsTextTold form scope (R.remaining reader.old) detail told.outcome (string_bytes told.text)) }
     ensures err { IfErr result (λ fault. fault ≢ TellFault.WriteFault) }
 {
     match judge_text(alloc, hash_builder, scope, reader) {
-        Ok(judged) => match told_judged(alloc, form, judged, explain) {
+        Ok(judged) => match told_judged(alloc, form, judged, detail) {
             Ok(told) => Ok(told),
             Err(AllocError) => Err(TellFault::OutOfMemory),
         },
@@ -84,17 +89,19 @@ fn told_judged<S: BuildHasher + Drop>(
     alloc: Global,
     form: Form,
     judged: JudgedText<S>,
-    explain: bool,
+    detail: Detail,
 ) -> Result<JudgeReport, AllocError>
-    requires { IsFound judged.text.history judged.found }
+    requires found { IsFound judged.text.history judged.found }
+    requires faults { IfRejected judged.found (λ _. IsListed judged.text.history judged.faults) }
     ensures { IfOk result (λ told. IsHistoryTold form
         (text_by judged.text.history judged.text.lines.items judged.text.callers)
-        explain told.outcome (string_bytes told.text)) }
+        detail told.outcome (string_bytes told.text)) }
 {
     let text = found_begun(alloc, form, &judged)?;
     let JudgedText {
         text: history,
         found,
+        faults,
     } = judged;
     match found {
         Found::Accepted(certificate) => {
@@ -107,7 +114,7 @@ fn told_judged<S: BuildHasher + Drop>(
             Ok(JudgeReport { text, outcome })
         }
         Found::Rejected(witness) => match told_rejected(
-            alloc, form, text, history, witness, explain,
+            alloc, form, text, history, witness, &faults, detail,
         ) {
             Ok(told) => Ok(told),
             Err(refused) => Err(refused),
@@ -127,15 +134,19 @@ fn told_rejected<S: BuildHasher + Drop>(
     begun: String,
     text: TextHistory<S>,
     witness: Witness,
-    explain: bool,
+    list: &FaultList,
+    detail: Detail,
 ) -> Result<JudgeReport, AllocError>
     requires witness { IsWitness text.history witness }
+    requires list { IsListed text.history list.now }
     requires begun { string_bytes begun
-        ≡ rejected_begun form (text_by text.history text.lines.items text.callers) witness }
+        ≡ rejected_begun form (text_by text.history text.lines.items text.callers) witness
+        list.now.faults.items }
     ensures { IfOk result (λ told. IsHistoryTold form
         (text_by text.history text.lines.items text.callers)
-        explain told.outcome (string_bytes told.text)) }
+        detail told.outcome (string_bytes told.text)) }
 {
+    let begun = with_calls(alloc, form, begun, &text.history, &text.lines, &witness)?;
     let TextHistory {
         history,
         lines,
@@ -147,7 +158,9 @@ fn told_rejected<S: BuildHasher + Drop>(
         callers: copy_names(alloc, callers.names())?,
         reason: Reason::of_witness(witness),
     };
-    let text = rejection.told_behind(alloc, form, begun, explain)?;
+    let begun = listed(alloc, form, detail.all, begun, &rejection, &list.faults)?;
+    let more = more_text(alloc, list.faults.len(), list.keys)?;
+    let text = rejection.told_behind(alloc, form, begun, detail.explain, more.as_str())?;
     let outcome = Outcome::Rejected(rejection);
     Ok(JudgeReport { text, outcome })
 }

@@ -1,6 +1,5 @@
 // The kind and the key of a reason.
-ghost use Rattle.std.specs.Prelude.{◌≡◌, ◌<◌, IfOk, length, string_bytes};
-ghost use Rattle.certificate_finder.specs.Witnesses.{IsWitness};
+ghost use Rattle.std.specs.Prelude.{◌≡◌, IfOk, string_bytes};
 ghost use Rattle.history_text.specs.Coding.{word_of};
 ghost use Rattle.judge_run.specs.Telling.{first_position, key_at, witness_word};
 
@@ -21,7 +20,7 @@ pub(crate) fn kind_word(witness: &Witness) -> &'static str
 }
 
 /// The call whose key a reason is about.
-fn first_position(witness: &Witness) -> u32
+pub(crate) fn first_position(witness: &Witness) -> u32
     ensures { result ≡ first_position witness.now }
 {
     match witness {
@@ -31,18 +30,28 @@ fn first_position(witness: &Witness) -> u32
     }
 }
 
+/// The key of the call at a position; an empty one if there is no such call.
+pub(crate) fn key_at(history: &History, position: u32) -> &[u8]
+    ensures { result.now ≡ key_at history.now position }
+{
+    let place = position as usize;
+    if place < history.len() {
+        history.at(place).key
+    } else {
+        &[]
+    }
+}
+
 /// The key that a reason is about, as a text writes it.
 pub(crate) fn key_word(
     alloc: Global,
     history: &History,
     witness: &Witness,
 ) -> Result<String, AllocError>
-    requires { IsWitness history.now witness.now }
     ensures { IfOk result (λ key. string_bytes key
         ≡ word_of (key_at history.now (first_position witness.now))) }
 {
-    let call = history.at(first_position(witness) as usize);
-    match word(alloc, call.key) {
+    match word(alloc, key_at(history, first_position(witness))) {
         Ok(key) => Ok(key),
         Err(refused) => Err(refused),
     }

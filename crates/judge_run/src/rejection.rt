@@ -1,5 +1,5 @@
 // A history that is rejected, and why.
-ghost use Rattle.std.specs.Prelude.{◌≡◌, IfOk, OnOk, string_bytes};
+ghost use Rattle.std.specs.Prelude.{◌≡◌, ◌++◌, IfOk, OnOk, string_bytes};
 ghost use Rattle.history_picture.specs.Names.{names_of};
 ghost use Rattle.history_picture.specs.Shown.{IsExplanation};
 ghost use Rattle.judge_run.specs.Answers.{with_why};
@@ -38,21 +38,23 @@ impl Rejection {
         }
     }
 
-    /// The answer that was begun with its verdict, and after that its explanation, if that is wanted.
+    /// The answer that was begun with its verdict, and after that its explanation with this text at its end, if that is wanted.
     pub(crate) fn told_behind(
         &self,
         alloc: Global,
         form: Form,
         begun: String,
         explain: bool,
+        more: &str,
     ) -> Result<String, AllocError>
         ensures { IfOk result (λ text.
-            IsBehind form explain self.now (string_bytes begun) (string_bytes text)) }
+            IsBehind form explain more.now self.now (string_bytes begun) (string_bytes text)) }
     {
         if !explain {
             return ended(form, begun);
         }
-        let why = explanation(alloc, &self.scene(), &self.reason)?;
+        let explained = explanation(alloc, &self.scene(), &self.reason)?;
+        let why = with_more(explained, more)?;
         let mut text = begun;
         tell_why(alloc, form, &mut text, why.as_str())?;
         match ended(form, text) {
@@ -60,6 +62,15 @@ impl Rejection {
             Err(refused) => Err(refused),
         }
     }
+}
+
+/// A text with this at its end.
+fn with_more(begun: String, more: &str) -> Result<String, AllocError>
+    ensures { IfOk result (λ text. string_bytes text ≡ string_bytes begun ++ more.now) }
+{
+    let mut text = begun;
+    text.push_str(more)?;
+    Ok(text)
 }
 
 /// Tells why a history is rejected, after the answer that was begun.

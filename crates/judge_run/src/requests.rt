@@ -1,4 +1,5 @@
 // What `judge`, `check` and `show` are asked to do: their three requests.
+use crate::detail::Detail;
 use crate::scope::Scope;
 use trace_file::FileName;
 
@@ -7,14 +8,16 @@ use trace_file::FileName;
 pub struct JudgeRequest {
     /// The file of the text; `-` is the standard input.
     pub file: FileName,
-    /// Whether it is said why the history is rejected.
-    pub explain: bool,
+    /// What is reported of a rejected history beside its verdict.
+    pub detail: Detail,
     /// Whether the answer is a JSON object and not lines.
     pub json: bool,
     /// The file that a picture of why it is rejected is drawn to.
     pub picture: Option<FileName>,
     /// The file that an accepted history is written to, as a trace with the certificate that was found.
     pub trace: Option<FileName>,
+    /// The file that what came of judging is written to, as a JUnit file.
+    pub junit: Option<FileName>,
     /// How many calls an accepted history has to have.
     pub at_least: u64,
     /// What of the calls is judged. What is drawn and what is written as a trace are the calls as they are judged.

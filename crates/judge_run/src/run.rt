@@ -18,6 +18,7 @@ use crate::showing::answer_show;
 use crate::shown::Shown;
 use crate::tell_fault::TellFault;
 use crate::telling::{no_key, out_of_memory, too_late, unopened, untold, without_random};
+use crate::wanted_files::WantedFiles;
 use figures::Form;
 use history_text::{TextFault, key_bytes};
 use key_hash::RandomSeed;
@@ -29,16 +30,16 @@ use std::rt::Files;
 use trace_file::FileName;
 
 /// Judges the history of a text in a file or of standard input, and answers the status that the program ends with. The
-/// tables have a seed of their own. The verdict is written to `out`, followed by the reason, if that is wanted. Then an
-/// accepted history is written to the file of its trace, and the picture of a rejected one to its file, if they are
-/// wanted. What failed, and what to do about it, is written to `err`.
+/// tables have a seed of their own. The verdict is written to `out`, followed by all faults and the reason, if
+/// that is wanted. Then an accepted history is written to the file of its trace, the picture of a rejected one to its file, and what came of
+/// judging to its JUnit file, if they are wanted. What failed, and what to do about it, is written to `err`.
 pub fn run_judge<R: AllocGlobal + Files + Input + RandomSource, O: Write, E: Write>(
     rt: &R,
     request: &JudgeRequest,
     out: &mut O,
     err: &mut E,
 ) -> u8
-    ensures { IsJudgeRun (form_of request.now.json) request.now.scope request.now.explain
+    ensures { IsJudgeRun (form_of request.now.json) request.now.scope request.now.detail
         request.now.at_least (O.contents out.old) (O.contents out.new) result }
 {
     judge_with(rt, &mut rt.reader(), request, out, err)
@@ -52,10 +53,10 @@ pub fn judge_with<R: AllocGlobal + Files + RandomSource, I: Read, O: Write, E: W
     out: &mut O,
     err: &mut E,
 ) -> u8
-    ensures judged { IsJudgeRun (form_of request.now.json) request.now.scope request.now.explain
+    ensures judged { IsJudgeRun (form_of request.now.json) request.now.scope request.now.detail
         request.now.at_least (O.contents out.old) (O.contents out.new) result }
     ensures standard_input { IsStandardInput request.now.file → IsJudgeRunOn
-        (form_of request.now.json) request.now.scope (I.remaining stdin.old) request.now.explain
+        (form_of request.now.json) request.now.scope (I.remaining stdin.old) request.now.detail
         request.now.at_least (O.contents out.old) (O.contents out.new) result }
     ensures unread { ¬ IsStandardInput request.now.file → stdin.new ≡ stdin.old }
 {
@@ -82,7 +83,7 @@ fn judge_from<R: AllocGlobal + Files, I: Read, O: Write, E: Write>(
     err: &mut E,
 ) -> u8
     ensures { IsJudgeRunOn (form_of request.now.json) request.now.scope (I.remaining reader.old)
-        request.now.explain request.now.at_least (O.contents out.old) (O.contents out.new) result }
+        request.now.detail request.now.at_least (O.contents out.old) (O.contents out.new) result }
 {
     let form = Form::of(request.json);
     let answer = answer_judge(
@@ -90,14 +91,17 @@ fn judge_from<R: AllocGlobal + Files, I: Read, O: Write, E: Write>(
         seed,
         form,
         request.scope,
-        request.explain,
+        request.detail,
         reader,
         out,
     );
-    let trace = request.trace.as_ref();
-    let picture = request.picture.as_ref();
+    let files = WantedFiles {
+        trace: request.trace.as_ref(),
+        picture: request.picture.as_ref(),
+        junit: request.junit.as_ref(),
+    };
     let least = request.at_least as usize;
-    let end = settled(rt, &request.file, answer, trace, picture, least, err);
+    let end = settled(rt, &request.file, answer, &files, least, err);
     end.status()
 }
 
@@ -160,8 +164,12 @@ fn check_from<R: AllocGlobal + Files, I: Read, O: Write, E: Write>(
 {
     let form = Form::of(request.json);
     let answer = answer_check(rt.alloc(), seed, form, request.explain, reader, out);
-    let picture = request.picture.as_ref();
-    let end = settled(rt, &request.file, answer, None, picture, 0, err);
+    let files = WantedFiles {
+        trace: None,
+        picture: request.picture.as_ref(),
+        junit: None,
+    };
+    let end = settled(rt, &request.file, answer, &files, 0, err);
     end.status()
 }
 
@@ -171,8 +179,7 @@ fn settled<R: AllocGlobal + Files, E: Write>(
     rt: &R,
     file: &FileName,
     answer: Result<Outcome, TellFault>,
-    trace: Option<&FileName>,
-    picture: Option<&FileName>,
+    files: &WantedFiles<'_>,
     least: usize,
     err: &mut E,
 ) -> JudgeEnd
@@ -182,7 +189,7 @@ fn settled<R: AllocGlobal + Files, E: Write>(
         Ok(outcome) => {
             note_answer(err, input_name(file), &outcome);
             note_few(err, input_name(file), &outcome, least);
-            save(rt, trace, picture, &outcome, least, err)
+            save(rt, files, input_name(file), &outcome, least, err)
         }
         Err(fault) => untold(err, input_name(file), fault),
     }

@@ -3,42 +3,101 @@ ghost use Rattle.std.specs.Prelude.{IfErr};
 ghost use Rattle.judge_run.specs.Ends.{IsFault, IsSaved};
 
 use crate::judge_end::JudgeEnd;
+use crate::junit::junit_text;
 use crate::outcome::Outcome;
 use crate::rejection::Rejection;
 use crate::telling::{out_of_memory, unopened, unwritten};
+use crate::wanted_files::WantedFiles;
 use history_picture::{ExplainFault, draw};
 use std::fs;
 use std::io::{BufWriter, Write};
 use std::rt::Files;
-use trace_file::{FileName, Trace, write_trace};
+use trace_file::{FileName, Trace, write_trace, write_whole};
 
-/// Writes the trace of an accepted history, or the picture of a rejected one, to its file, if that is wanted, and says how the
-/// program ends, if an accepted history has to have so many calls. A file to which nothing is to be written is left as it is.
+/// Writes the trace of an accepted history, or the picture of a rejected one, and what came of judging the input of this name to their
+/// files, if that is wanted, and says how the program ends, if an accepted history has to have so many calls. A file to which nothing
+/// is to be written is left as it is.
 pub(crate) fn save<R: AllocGlobal + Files, E: Write>(
     rt: &R,
-    trace: Option<&FileName>,
-    picture: Option<&FileName>,
+    files: &WantedFiles<'_>,
+    name: &str,
     outcome: &Outcome,
     least: usize,
     err: &mut E,
 ) -> JudgeEnd
     ensures { IsSaved least outcome.now result }
 {
-    let saved = match outcome {
-        Outcome::Accepted(pair) => match trace {
+    match save_each(rt, files, name, outcome, least, err) {
+        Ok(()) => JudgeEnd::at_least(least, outcome),
+        Err(end) => end,
+    }
+}
+
+/// Writes each file that is wanted.
+fn save_each<R: AllocGlobal + Files, E: Write>(
+    rt: &R,
+    files: &WantedFiles<'_>,
+    name: &str,
+    outcome: &Outcome,
+    least: usize,
+    err: &mut E,
+) -> Result<(), JudgeEnd>
+    ensures { IfErr result IsFault }
+{
+    match save_outcome(rt, files, outcome, err) {
+        Ok(()) => {}
+        Err(end) => return Err(end),
+    }
+    match files.junit {
+        Some(junit) => save_junit(rt, junit, name, outcome, least, err),
+        None => Ok(()),
+    }
+}
+
+/// Writes the trace of an accepted history, or the picture of a rejected one, to its file, if that is wanted.
+fn save_outcome<R: AllocGlobal + Files, E: Write>(
+    rt: &R,
+    files: &WantedFiles<'_>,
+    outcome: &Outcome,
+    err: &mut E,
+) -> Result<(), JudgeEnd>
+    ensures { IfErr result IsFault }
+{
+    match outcome {
+        Outcome::Accepted(pair) => match files.trace {
             Some(name) => save_trace(rt, name, pair, err),
             None => Ok(()),
         },
-        Outcome::Rejected(rejection) => match picture {
+        Outcome::Rejected(rejection) => match files.picture {
             Some(name) => save_picture(rt, name, rejection, err),
             None => Ok(()),
         },
         Outcome::Undecided(_) | Outcome::BadLine(_) | Outcome::BadTrace(_) => Ok(()),
-    };
-    match saved {
-        Ok(()) => JudgeEnd::at_least(least, outcome),
-        Err(end) => end,
     }
+}
+
+/// Writes what came of judging the input of this name to a file, as JUnit has it. The file is made if it is absent, otherwise emptied.
+fn save_junit<R: AllocGlobal + Files, E: Write>(
+    rt: &R,
+    junit: &FileName,
+    name: &str,
+    outcome: &Outcome,
+    least: usize,
+    err: &mut E,
+) -> Result<(), JudgeEnd>
+    ensures { IfErr result IsFault }
+{
+    let Ok(text) = junit_text(rt.alloc(), name, least, outcome) else {
+        return Err(out_of_memory(err, junit.as_str()));
+    };
+    let mut file = match fs::create(rt, junit.as_str()) {
+        Ok(file) => file,
+        Err(error) => return Err(unopened(err, junit, &error)),
+    };
+    if write_whole(&mut file, &text).is_err() {
+        return Err(unwritten(err, junit));
+    }
+    Ok(())
 }
 
 /// Writes a trace to a file, which is made if it is absent, otherwise emptied.

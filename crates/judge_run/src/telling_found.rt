@@ -1,12 +1,9 @@
 // The line that tells what was found for the history of a text.
 ghost use Rattle.std.specs.Prelude.{◌≡◌, IfOk, length, string_bytes};
-ghost use Rattle.certificate_finder.specs.Witnesses.{IsWitness};
-ghost use Rattle.certificate_finder.specs.Finding.{IsFound};
 ghost use Rattle.judge_run.specs.Telling.{verdict_text};
 
 use crate::judged_text::JudgedText;
-use crate::key_word::{key_word, kind_word};
-use crate::told_lines::{lines_of, spaced};
+use crate::reason_text::reason_text;
 use certificate_checker::Verdict;
 use certificate_finder::{Found, Witness};
 use std::alloc::{AllocError, Global};
@@ -20,15 +17,11 @@ fn rejected_text(
     lines: &[u32],
     witness: &Witness,
 ) -> Result<String, AllocError>
-    requires { IsWitness history.now witness.now }
     ensures { IfOk result (λ text.
         string_bytes text ≡ verdict_text history.now lines.now (Found.Rejected witness.now)) }
 {
-    let key = key_word(alloc, history, witness)?;
-    let kind = kind_word(witness);
-    let told = lines_of(alloc, lines, witness)?;
-    let numbers = spaced(alloc, &told)?;
-    format!(in alloc; "rejected {kind} key {key} lines{numbers}\n")
+    let reason = reason_text(alloc, history, lines, witness)?;
+    format!(in alloc; "rejected {reason}\n")
 }
 
 /// The line that tells what was found for the history of a text, with its line feed: `accepted N calls`, `rejected`, the kind
@@ -37,7 +30,6 @@ pub fn verdict_text<S: BuildHasher>(
     alloc: Global,
     judged: &JudgedText<S>,
 ) -> Result<String, AllocError>
-    requires { IsFound judged.now.text.history judged.now.found }
     ensures { IfOk result (λ text. string_bytes text
         ≡ verdict_text judged.now.text.history judged.now.text.lines.items judged.now.found) }
 {

@@ -1,9 +1,10 @@
 // The rows that tell what was found for the history of a text.
 ghost use Rattle.std.specs.Prelude.{◌≡◌, OnOk, length, string_bytes};
-ghost use Rattle.certificate_finder.specs.Witnesses.{IsWitness};
-ghost use Rattle.certificate_finder.specs.Finding.{IsFound};
+ghost use Rattle.certificate_finder.specs.Finding.{IfRejected};
 ghost use Rattle.figures.specs.Figures.{with_rows};
-ghost use Rattle.judge_run.specs.FoundRows.{found_rows, rejected_rows, undecided_rows, outcome_rows};
+ghost use Rattle.judge_run.specs.FoundRows.{count_rows, found_rows, outcome_rows, rejected_rows, undecided_rows};
+ghost use Rattle.judge_run.specs.Listing.{IsListed, key_count};
+ghost use Rattle.judge_run.specs.ReasonRows.{reason_rows};
 
 use crate::judged_text::JudgedText;
 use crate::key_word::{key_word, kind_word};
@@ -15,8 +16,8 @@ use std::alloc::{AllocError, Global};
 use std::hash::BuildHasher;
 use trace_file::History;
 
-/// Tells why a history is rejected.
-fn tell_rejected(
+/// Tells what a reason speaks of.
+pub(crate) fn tell_reason(
     alloc: Global,
     form: Form,
     text: &mut String,
@@ -24,16 +25,56 @@ fn tell_rejected(
     lines: &[u32],
     witness: &Witness,
 ) -> Result<(), AllocError>
-    requires { IsWitness history.now witness.now }
     ensures { OnOk result (string_bytes text.new
-        ≡ with_rows form (string_bytes text.old) (rejected_rows history.now lines.now witness.now)) }
+        ≡ with_rows form (string_bytes text.old) (reason_rows history.now lines.now witness.now)) }
 {
     let key = key_word(alloc, history, witness)?;
     let told = lines_of(alloc, lines, witness)?;
-    form.tell(alloc, text, "verdict", Figure::Word("rejected"))?;
     form.tell(alloc, text, "kind", Figure::Word(kind_word(witness)))?;
     form.tell(alloc, text, "key", Figure::Word(key.as_str()))?;
     form.tell(alloc, text, "lines", Figure::Numbers(&told))
+}
+
+/// Tells how many faults there are, and at how many keys.
+fn tell_counts(
+    alloc: Global,
+    form: Form,
+    text: &mut String,
+    faults: usize,
+    keys: usize,
+) -> Result<(), AllocError>
+    ensures { OnOk result (string_bytes text.new
+        ≡ with_rows form (string_bytes text.old) (count_rows faults keys)) }
+{
+    form.tell(alloc, text, "fault-count", Figure::Count(faults as u64))?;
+    form.tell(alloc, text, "fault-keys", Figure::Count(keys as u64))
+}
+
+/// Tells why a history is rejected, and how many faults it has.
+fn tell_rejected<S: BuildHasher>(
+    alloc: Global,
+    form: Form,
+    text: &mut String,
+    judged: &JudgedText<S>,
+    witness: &Witness,
+) -> Result<(), AllocError>
+    requires { judged.now.faults.keys ≡ key_count judged.now.text.history judged.now.faults.faults.items }
+    ensures { OnOk result (string_bytes text.new
+        ≡ with_rows form (string_bytes text.old)
+        (rejected_rows judged.now.text.history judged.now.text.lines.items witness.now
+        judged.now.faults.faults.items)) }
+{
+    form.tell(alloc, text, "verdict", Figure::Word("rejected"))?;
+    tell_reason(
+        alloc,
+        form,
+        text,
+        &judged.text.history,
+        &judged.text.lines,
+        witness,
+    )?;
+    let faults = judged.faults.faults.len();
+    tell_counts(alloc, form, text, faults, judged.faults.keys)
 }
 
 /// Tells that this many hits are undecided.
@@ -57,28 +98,23 @@ fn tell_verdict<S: BuildHasher>(
     text: &mut String,
     judged: &JudgedText<S>,
 ) -> Result<(), AllocError>
-    requires { IsFound judged.now.text.history judged.now.found }
+    requires { IfRejected judged.now.found (λ _. IsListed judged.now.text.history judged.now.faults) }
     ensures { OnOk result (string_bytes text.new
         ≡ with_rows form (string_bytes text.old)
-        (outcome_rows judged.now.text.history judged.now.text.lines.items judged.now.found)) }
+        (outcome_rows judged.now.text.history judged.now.text.lines.items judged.now.found
+        judged.now.faults.faults.items)) }
 {
     match &judged.found {
         Found::Accepted(_) => form.tell(alloc, text, "verdict", Figure::Word("accepted")),
-        Found::Rejected(witness) => tell_rejected(
-            alloc,
-            form,
-            text,
-            &judged.text.history,
-            &judged.text.lines,
-            witness,
-        ),
+        Found::Rejected(witness) => tell_rejected(alloc, form, text, judged, witness),
         Found::Undecided(hits) => tell_undecided(alloc, form, text, hits.len()),
     }
 }
 
 /// Tells what was found for the history of a text by rows: `calls`, the number of its calls, then how many of them are `puts`,
 /// `removals`, `hits` and `misses`, and `verdict`, which is `accepted`, `rejected` or `undecided`. After `rejected` come the `kind`
-/// of the reason, its `key` and the `lines` that it speaks of; after `undecided` comes the number of the `undecided-hits`. If memory
+/// of the reason, its `key` and the `lines` that it speaks of, the number of all faults, `fault-count`, and that of their keys,
+/// `fault-keys`; after `undecided` comes the number of the `undecided-hits`. If memory
 /// is refused, the text is a front of the whole.
 pub fn tell_found<S: BuildHasher>(
     alloc: Global,
@@ -86,10 +122,11 @@ pub fn tell_found<S: BuildHasher>(
     text: &mut String,
     judged: &JudgedText<S>,
 ) -> Result<(), AllocError>
-    requires { IsFound judged.now.text.history judged.now.found }
+    requires { IfRejected judged.now.found (λ _. IsListed judged.now.text.history judged.now.faults) }
     ensures { OnOk result (string_bytes text.new
         ≡ with_rows form (string_bytes text.old)
-        (found_rows judged.now.text.history judged.now.text.lines.items judged.now.found)) }
+        (found_rows judged.now.text.history judged.now.text.lines.items judged.now.found
+        judged.now.faults.faults.items)) }
 {
     let calls = judged.text.history.len();
     form.tell(alloc, text, "calls", Figure::Count(calls as u64))?;

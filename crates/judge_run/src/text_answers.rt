@@ -1,8 +1,9 @@
 // The answers to texts.
 ghost use Rattle.std.specs.Prelude.{◌≡◌, [], IfOk, OnOk, string_bytes};
-ghost use Rattle.certificate_finder.specs.Finding.{IsFound};
+ghost use Rattle.certificate_finder.specs.Finding.{IfRejected};
 ghost use Rattle.figures.specs.Figures.{with_rows};
 ghost use Rattle.judge_run.specs.FoundRows.{found_rows};
+ghost use Rattle.judge_run.specs.Listing.{IsListed};
 ghost use Rattle.judge_run.specs.TextTold.{bad_answer, bad_line_rows, found_begun};
 
 use crate::judged_text::JudgedText;
@@ -19,9 +20,10 @@ pub(crate) fn found_begun<S: BuildHasher>(
     form: Form,
     judged: &JudgedText<S>,
 ) -> Result<String, AllocError>
-    requires { IsFound judged.now.text.history judged.now.found }
+    requires { IfRejected judged.now.found (λ _. IsListed judged.now.text.history judged.now.faults) }
     ensures { IfOk result (λ text. string_bytes text
-        ≡ found_begun form judged.now.text.history judged.now.text.lines.items judged.now.found) }
+        ≡ found_begun form judged.now.text.history judged.now.text.lines.items judged.now.found
+        judged.now.faults.faults.items) }
 {
     match form {
         Form::Lines => match verdict_text(alloc, judged) {
@@ -37,9 +39,10 @@ pub(crate) fn found_begun<S: BuildHasher>(
 
 /// The members of a JSON object that tell what was found.
 fn members_of<S: BuildHasher>(alloc: Global, judged: &JudgedText<S>) -> Result<String, AllocError>
-    requires { IsFound judged.now.text.history judged.now.found }
+    requires { IfRejected judged.now.found (λ _. IsListed judged.now.text.history judged.now.faults) }
     ensures { IfOk result (λ text. string_bytes text ≡ with_rows Form.Json []
-        (found_rows judged.now.text.history judged.now.text.lines.items judged.now.found)) }
+        (found_rows judged.now.text.history judged.now.text.lines.items judged.now.found
+        judged.now.faults.faults.items)) }
 {
     let mut text = String::new(alloc);
     match tell_found(alloc, Form::Json, &mut text, judged) {

@@ -126,6 +126,21 @@ pub(crate) fn lines_of(
     Ok(told)
 }
 
+/// The calls that a reason speaks of, in the order of the history and each once.
+pub(crate) fn told_positions(alloc: Global, witness: &Witness) -> Result<Vec<u32>, AllocError>
+    ensures { IfOk result (λ told. told.items ≡ ascending (witness_positions witness.now)) }
+{
+    let positions = positions_of(alloc, witness)?;
+    let mut told = Vec::new(alloc);
+    for position in &positions {
+        match put_in(&mut told, *position) {
+            Ok(()) => {}
+            Err(refused) => return Err(refused),
+        }
+    }
+    Ok(told)
+}
+
 /// Numbers, each after a space.
 pub(crate) fn spaced(alloc: Global, numbers: &[u32]) -> Result<String, AllocError>
     ensures { IfOk result (λ text. string_bytes text ≡ spaced numbers.now) }

@@ -6,11 +6,13 @@ use Rattle.certificate_finder.specs.declared.found.Found.TheVariants as found
 use Rattle.certificate_finder.specs.declared.witness.Witness.{Witness}
 use Rattle.certificate_finder.specs.Witnesses.{IsWitness}
 use Rattle.figures.specs.declared.form.Form.TheVariants.{Json}
-use Rattle.figures.specs.Figures.{number, row, text_of_rows, word}
+use Rattle.figures.specs.Figures.{ended, number, row, text_of_rows, with_rows, word}
 use Rattle.figures.specs.Verdicts.{verdict_rows}
 use Rattle.history_picture.specs.Reasons.{reason_of}
+use Rattle.judge_run.specs.CallObjects.{with_calls}
 use Rattle.judge_run.specs.FoundRows.{found_rows}
 use Rattle.judge_run.specs.Kinds.{kind_rows}
+use Rattle.judge_run.specs.Listing.{AreListed}
 use Rattle.trace_file.specs.declared.trace.Trace.{Trace}
 use Rattle.judge_run.specs.declared.rejection.Rejection.{Rejection}
 
@@ -28,9 +30,11 @@ pub record IsFaultTold (rejection : Rejection) (old new : List ℕ) : Type 0 whe
   pub fault : Fault
   pub new_is : new ≡ old ++ rejected_object (length rejection.history) fault
 
--- a reason why no certificate is accepted is told, with its kind, its key and its lines, and nothing after it
+-- a reason why no certificate is accepted is told, with its kind, its key and its lines, how many faults there are, and the calls of the reason, and nothing after it
 pub record IsReasonTold (rejection : Rejection) (old new : List ℕ) : Type 0 where
   pub witness : Witness
   pub is : IsWitness rejection.history witness
   pub reason_is : rejection.reason ≡ reason_of witness
-  pub new_is : new ≡ old ++ text_of_rows Json (found_rows rejection.history rejection.lines.items (found.Rejected witness))
+  pub faults : List Witness
+  pub are_all : AreListed rejection.history faults
+  pub new_is : new ≡ old ++ ended Json (with_calls Json rejection.history rejection.lines.items witness (with_rows Json [] (found_rows rejection.history rejection.lines.items (found.Rejected witness) faults)))

@@ -1,6 +1,7 @@
 //! What is reported, and how the program ends.
 mod files;
 mod json;
+mod junit;
 mod rows;
 mod seeds;
 mod streams;

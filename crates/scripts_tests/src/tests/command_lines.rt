@@ -1,6 +1,6 @@
 // What the words of a command line ask for, and how the program ends.
 use command_line::{Ending, Line, LineFault, ProgramEnd, no_text, parse_line};
-use judge_run::{CheckRequest, JudgeRequest, ShowRequest};
+use judge_run::{CheckRequest, Detail, JudgeRequest, ShowRequest};
 use std::alloc::Global;
 use std::io;
 use std::io::ErrorKind;
@@ -71,24 +71,40 @@ fn check_asked(request: &CheckRequest) -> Asked {
     Asked::Other
 }
 
+/// Only the verdict of a history.
+const NOTHING_MORE: Detail = Detail {
+    explain: false,
+    all: false,
+};
+
+/// All that can be said of a history that is rejected.
+const ALL: Detail = Detail {
+    explain: true,
+    all: true,
+};
+
 /// What judging asks for.
 fn judge_asked(request: &JudgeRequest) -> Asked {
-    let has_all = is_named(&request.picture, "a.svg") && is_named(&request.trace, "b.trace");
-    let has_none = is_named(&request.picture, "") && is_named(&request.trace, "");
+    let has_all = is_named(&request.picture, "a.svg")
+        && is_named(&request.trace, "b.trace")
+        && is_named(&request.junit, "c.xml");
+    let has_none = is_named(&request.picture, "")
+        && is_named(&request.trace, "")
+        && is_named(&request.junit, "");
     if request.at_least != 0 || request.scope.skew != 0 {
         return limited_asked(request, has_none);
     }
     if is_named(&request.trace, "b.trace") && is_named(&request.picture, "") {
         return Asked::JudgeTraced;
     }
-    if request.file.as_str() == "-" && !request.explain && has_none {
+    if request.file.as_str() == "-" && request.detail == NOTHING_MORE && has_none {
         return if request.json {
             Asked::JudgeJson
         } else {
             Asked::Judge
         };
     }
-    if request.file.as_str() == "a.txt" && request.explain && !request.json && has_all {
+    if request.file.as_str() == "a.txt" && request.detail == ALL && !request.json && has_all {
         return Asked::JudgeAll;
     }
     Asked::Other
@@ -96,7 +112,7 @@ fn judge_asked(request: &JudgeRequest) -> Asked {
 
 /// What judging with a limit asks for, if nothing else is wanted.
 fn limited_asked(request: &JudgeRequest, is_alone: bool) -> Asked {
-    if request.file.as_str() != "-" || request.explain || !is_alone {
+    if request.file.as_str() != "-" || request.detail != NOTHING_MORE || !is_alone {
         return Asked::Other;
     }
     match (request.at_least, request.scope.skew) {
@@ -160,13 +176,15 @@ const CHECK_EXPLAINED: [&str; 6] = [
 ];
 
 /// The words of `judge` with all its options.
-const JUDGE_ALL: [&str; 7] = [
+const JUDGE_ALL: [&str; 9] = [
     "kangaroo",
     "judge",
     "--trace",
     "b.trace",
     "--picture=a.svg",
     "--explain",
+    "--all",
+    "--junit=c.xml",
     "a.txt",
 ];
 

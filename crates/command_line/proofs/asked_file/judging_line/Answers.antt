@@ -13,4 +13,5 @@ pub returns-clause-named : goal.returns-clause-named
 returns-clause-named c =
     asks_judging (rows_of (found_of c.args.found.now)) c.in_ok-file.file
     (ap Some c.in_ok-file.ensures ∙ found_text (found_of c.args.found.now) (codes "FILE") (codes "FILE") (Some c.in-Some.file.now) refl c.in-Some.ensures)
-    c.args.at_least c.args.skew c.is_on-explain.result c.is_on-json.result c.in_ok-picture.picture c.in_ok-trace.trace c.is_on-explain.ensures c.is_on-json.ensures c.in_ok-picture.ensures c.in_ok-trace.ensures
+    (record { file = c.in_ok-file.file; explain = c.is_on-explain.result; all = c.is_on-all.result; json = c.is_on-json.result; picture = c.in_ok-picture.picture; trace = c.in_ok-trace.trace; junit = c.in_ok-junit.junit; least = c.args.at_least; skew = c.args.skew })
+    refl c.is_on-explain.ensures c.is_on-all.ensures c.is_on-json.ensures c.in_ok-picture.ensures c.in_ok-trace.ensures c.in_ok-junit.ensures

@@ -1,5 +1,5 @@
 -- The first fault of a trace that is rejected, with what is reported after it.
-use Rattle.std.proofs.Common.{◌≡◌, ◌∙◌, List, ℕ, ap, length, subst}
+use Rattle.std.proofs.Common.{◌≡◌, ◌∙◌, List, [], ℕ, ap, length, subst}
 use Rattle.certificate_checker.specs.declared.verdict.Verdict.{Verdict}
 use Rattle.certificate_checker.specs.declared.verdict.Verdict.TheVariants.{Rejected}
 use Rattle.judge_run.specs.Told.{IsBehind}
@@ -17,5 +17,5 @@ returns-in_ok-text-in-Rejected g c =
       fault = c.in-Rejected.fault;
       first = c.in_ok-verdict.ensures.rejected c.in-Rejected.fault c.in-Rejected.is;
       is = c.rejection_of-rejection.ensures;
-      behind = subst (λ (l : List ℕ). IsBehind form c.args.explain c.rejection_of-rejection.result l (string_bytes c.in_ok-text-in-Rejected.text)) begun c.in_ok-text-in-Rejected.ensures;
+      behind = subst (λ (l : List ℕ). IsBehind form c.args.explain [] c.rejection_of-rejection.result l (string_bytes c.in_ok-text-in-Rejected.text)) begun c.in_ok-text-in-Rejected.ensures;
     }

@@ -1,7 +1,7 @@
 // Files and standard input that are read, and files that are written.
 use judge_run::{
-    CheckRequest, JudgeRequest, Scope, ShowRequest, check_with, judge_with, run_check, run_judge,
-    run_show, show_with,
+    CheckRequest, Detail, JudgeRequest, Scope, ShowRequest, check_with, judge_with, run_check,
+    run_judge, run_show, show_with,
 };
 use std::alloc::{AllocError, Global};
 use std::fs;
@@ -151,10 +151,11 @@ standard input: 0 calls, and --at-least asks for 1: see whether the recorder wro
 fn judge_of(alloc: Global, file: &str) -> Result<JudgeRequest, AllocError> {
     Ok(JudgeRequest {
         file: FileName::new(alloc, file)?,
-        explain: false,
+        detail: Detail::NONE,
         json: false,
         picture: Some(FileName::new(alloc, "judged.svg")?),
         trace: Some(FileName::new(alloc, "judged.trace")?),
+        junit: Some(FileName::new(alloc, "judged.xml")?),
         at_least: 0,
         scope: Scope::WHOLE,
     })

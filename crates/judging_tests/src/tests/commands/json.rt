@@ -1,6 +1,6 @@
 // Answers as JSON objects.
 use figures::Form;
-use judge_run::{JudgeEnd, Outcome, Scope, answer_check, answer_judge};
+use judge_run::{Detail, JudgeEnd, Outcome, Scope, answer_check, answer_judge};
 use std::alloc::Global;
 use std::hash::{BuildHasherDefault, FoldHasher};
 use trace_file::write_trace;
@@ -9,83 +9,102 @@ use trace_file::write_trace;
 #[derive(Clone, Copy)]
 struct Case {
     text: &'static str,
-    explain: bool,
+    detail: Detail,
     told: &'static str,
     end: JudgeEnd,
 }
+
+/// Why a history is rejected.
+const WHY: Detail = Detail {
+    explain: true,
+    all: false,
+};
+
+/// All its faults.
+const EACH: Detail = Detail {
+    explain: false,
+    all: true,
+};
 
 /// A stale hit.
 const STALE: &str =
     "alice 10 14 put color red\nbob 16 21 put color blue\ncarol 25 30 hit color red\n";
 
 /// Texts, each with its object. The verdicts were worked out by hand.
-const CASES: [Case; 10] = [
+const CASES: [Case; 11] = [
     Case {
         text: "",
-        explain: true,
+        detail: WHY,
         told: "{\"calls\":0,\"puts\":0,\"removals\":0,\"hits\":0,\"misses\":0,\"verdict\":\"accepted\"}\n",
         end: JudgeEnd::Done,
     },
     Case {
         text: "a 1 4 put k v\nb 2 6 hit k v\na 5 8 remove k\n",
-        explain: true,
+        detail: WHY,
         told: "{\"calls\":3,\"puts\":1,\"removals\":1,\"hits\":1,\"misses\":0,\"verdict\":\"accepted\"}\n",
         end: JudgeEnd::Done,
     },
     Case {
         text: STALE,
-        explain: false,
-        told: "{\"calls\":3,\"puts\":2,\"removals\":0,\"hits\":1,\"misses\":0,\"verdict\":\"rejected\",\"kind\":\"hit\",\"key\":\"color\",\"lines\":[1,2,3]}\n",
+        detail: Detail::NONE,
+        told: "{\"calls\":3,\"puts\":2,\"removals\":0,\"hits\":1,\"misses\":0,\"verdict\":\"rejected\",\"kind\":\"hit\",\"key\":\"color\",\"lines\":[1,2,3],\"fault-count\":1,\"fault-keys\":1,\"calls-of-fault\":[{\"line\":1,\"kind\":\"put\",\"key\":\"color\",\"start\":10,\"end\":14,\"value\":\"red\"},{\"line\":2,\"kind\":\"put\",\"key\":\"color\",\"start\":16,\"end\":21,\"value\":\"blue\"},{\"line\":3,\"kind\":\"hit\",\"key\":\"color\",\"start\":25,\"end\":30,\"value\":\"red\"}]}\n",
         end: JudgeEnd::Rejected,
     },
     // with its explanation, the line feeds of which are escaped
     Case {
         text: STALE,
-        explain: true,
-        told: "{\"calls\":3,\"puts\":2,\"removals\":0,\"hits\":1,\"misses\":0,\"verdict\":\"rejected\",\"kind\":\"hit\",\"key\":\"color\",\"lines\":[1,2,3],\"explanation\":\"the hit of red (line 3) is stale: put red (line 1) ended at 14, before put blue (line 2) started at 16, which ended at 21, before the hit started at 25\\n* 1  alice  10  14  put    red   []\\n* 2  bob    16  21  put    blue    []\\n* 3  carol  25  30  hit    red       []\\n\"}\n",
+        detail: WHY,
+        told: "{\"calls\":3,\"puts\":2,\"removals\":0,\"hits\":1,\"misses\":0,\"verdict\":\"rejected\",\"kind\":\"hit\",\"key\":\"color\",\"lines\":[1,2,3],\"fault-count\":1,\"fault-keys\":1,\"calls-of-fault\":[{\"line\":1,\"kind\":\"put\",\"key\":\"color\",\"start\":10,\"end\":14,\"value\":\"red\"},{\"line\":2,\"kind\":\"put\",\"key\":\"color\",\"start\":16,\"end\":21,\"value\":\"blue\"},{\"line\":3,\"kind\":\"hit\",\"key\":\"color\",\"start\":25,\"end\":30,\"value\":\"red\"}],\"explanation\":\"the hit of red (line 3) is stale: put red (line 1) ended at 14, before put blue (line 2) started at 16, which ended at 21, before the hit started at 25\\n* 1  alice  10  14  put    red   []\\n* 2  bob    16  21  put    blue    []\\n* 3  carol  25  30  hit    red       []\\n\"}\n",
+        end: JudgeEnd::Rejected,
+    },
+    // three faults at two keys, of which the second hit is of a value that was never put
+    Case {
+        text: "a 9 3 remove q\nb 10 20 hit k w\nc 1 2 put k x\nc 3 4 put k y\nd 6 8 hit k x\n",
+        detail: EACH,
+        told: "{\"calls\":5,\"puts\":2,\"removals\":1,\"hits\":2,\"misses\":0,\"verdict\":\"rejected\",\"kind\":\"interval\",\"key\":\"q\",\"lines\":[1],\"fault-count\":3,\"fault-keys\":2,\"calls-of-fault\":[{\"line\":1,\"kind\":\"remove\",\"key\":\"q\",\"start\":9,\"end\":3}],\"faults\":[{\"kind\":\"interval\",\"key\":\"q\",\"lines\":[1]},{\"kind\":\"hit\",\"key\":\"k\",\"lines\":[3,4,5],\"late\":2},{\"kind\":\"hit\",\"key\":\"k\",\"lines\":[2]}]}\n",
         end: JudgeEnd::Rejected,
     },
     // a quotation mark and a backslash stand in a word as they are, and are escaped in the object
     Case {
         text: "# the clock ran back\na 9 3 put q\"\\%20 v\n",
-        explain: false,
-        told: "{\"calls\":1,\"puts\":1,\"removals\":0,\"hits\":0,\"misses\":0,\"verdict\":\"rejected\",\"kind\":\"interval\",\"key\":\"q\\\"\\\\%20\",\"lines\":[2]}\n",
+        detail: Detail::NONE,
+        told: "{\"calls\":1,\"puts\":1,\"removals\":0,\"hits\":0,\"misses\":0,\"verdict\":\"rejected\",\"kind\":\"interval\",\"key\":\"q\\\"\\\\%20\",\"lines\":[2],\"fault-count\":1,\"fault-keys\":1,\"calls-of-fault\":[{\"line\":2,\"kind\":\"put\",\"key\":\"q\\\"\\\\%20\",\"start\":9,\"end\":3,\"value\":\"v\"}]}\n",
         end: JudgeEnd::Rejected,
     },
     Case {
         text: "a 1 10 put k x\nb 1 10 put k y\nc 11 12 hit k x\nc 13 14 hit k y\nc 15 16 hit k x\n",
-        explain: false,
-        told: "{\"calls\":5,\"puts\":2,\"removals\":0,\"hits\":3,\"misses\":0,\"verdict\":\"rejected\",\"kind\":\"crossed\",\"key\":\"k\",\"lines\":[1,2,4,5]}\n",
+        detail: Detail::NONE,
+        told: "{\"calls\":5,\"puts\":2,\"removals\":0,\"hits\":3,\"misses\":0,\"verdict\":\"rejected\",\"kind\":\"crossed\",\"key\":\"k\",\"lines\":[1,2,4,5],\"fault-count\":1,\"fault-keys\":1,\"calls-of-fault\":[{\"line\":1,\"kind\":\"put\",\"key\":\"k\",\"start\":1,\"end\":10,\"value\":\"x\"},{\"line\":2,\"kind\":\"put\",\"key\":\"k\",\"start\":1,\"end\":10,\"value\":\"y\"},{\"line\":4,\"kind\":\"hit\",\"key\":\"k\",\"start\":13,\"end\":14,\"value\":\"y\"},{\"line\":5,\"kind\":\"hit\",\"key\":\"k\",\"start\":15,\"end\":16,\"value\":\"x\"}]}\n",
         end: JudgeEnd::Rejected,
     },
     Case {
         text: "a 1 9 put k v\nb 2 8 put k v\nc 3 4 hit k v\n",
-        explain: true,
+        detail: WHY,
         told: "{\"calls\":3,\"puts\":2,\"removals\":0,\"hits\":1,\"misses\":0,\"verdict\":\"accepted\"}\n",
         end: JudgeEnd::Done,
     },
     Case {
         text: "a 0 9 put k v\nb 0 9 put k v\nc 0 9 put k w\nd 1 2 hit k w\ne 3 4 hit k v\nd 5 6 hit k w\n",
-        explain: true,
+        detail: WHY,
         told: "{\"calls\":6,\"puts\":3,\"removals\":0,\"hits\":3,\"misses\":0,\"verdict\":\"undecided\",\"undecided-hits\":1}\n",
         end: JudgeEnd::Undecided,
     },
     Case {
         text: "a 1 2 put k v\n\n# bad\na 1 2 get k\n",
-        explain: true,
+        detail: WHY,
         told: "{\"verdict\":\"bad line\",\"line\":4,\"cause\":\"the fourth word must be put, hit, miss or remove\"}\n",
         end: JudgeEnd::BadInput,
     },
     Case {
         text: "KGTRACE2",
-        explain: false,
+        detail: Detail::NONE,
         told: "{\"verdict\":\"bad line\",\"line\":1,\"cause\":\"a line has five to seven words of printable ASCII, separated by single spaces: CALLER START END put|hit|miss|remove KEY [VALUE [TIME]]\"}\n",
         end: JudgeEnd::BadInput,
     },
 ];
 
 /// Judges a text by a table that hashes by a known seed, and says what came of it.
-fn judged(alloc: Global, text: &str, explain: bool, told: &mut Vec<u8>) -> Option<Outcome> {
+fn judged(alloc: Global, text: &str, detail: Detail, told: &mut Vec<u8>) -> Option<Outcome> {
     let known: BuildHasherDefault<FoldHasher> = BuildHasherDefault::new();
     let mut reader = text.as_bytes();
     answer_judge(
@@ -93,7 +112,7 @@ fn judged(alloc: Global, text: &str, explain: bool, told: &mut Vec<u8>) -> Optio
         known,
         Form::Json,
         Scope::WHOLE,
-        explain,
+        detail,
         &mut reader,
         told,
     )
@@ -103,7 +122,7 @@ fn judged(alloc: Global, text: &str, explain: bool, told: &mut Vec<u8>) -> Optio
 /// Whether a case is told as it should be.
 fn is_as_told(alloc: Global, case: &Case) -> bool {
     let mut told: Vec<u8> = Vec::new(alloc);
-    match judged(alloc, case.text, case.explain, &mut told) {
+    match judged(alloc, case.text, case.detail, &mut told) {
         Some(outcome) => {
             told.as_slice() == case.told.as_bytes() && JudgeEnd::of_outcome(&outcome) == case.end
         }
@@ -122,7 +141,12 @@ fn each_text_has_its_object(rt: HostRuntime) {
 fn trace(alloc: Global) -> Option<Vec<u8>> {
     let mut told: Vec<u8> = Vec::new(alloc);
     let mut bytes: Vec<u8> = Vec::new(alloc);
-    match judged(alloc, "a 1 4 put k v\nb 2 6 hit k v\n", false, &mut told) {
+    match judged(
+        alloc,
+        "a 1 4 put k v\nb 2 6 hit k v\n",
+        Detail::NONE,
+        &mut told,
+    ) {
         Some(Outcome::Accepted(trace)) => {
             match write_trace(&trace.history, &trace.certificate, &mut bytes) {
                 Ok(()) => Some(bytes),

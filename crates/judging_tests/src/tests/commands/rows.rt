@@ -5,7 +5,7 @@ ghost use Rattle.judge_run.specs.declared.rejection.Rejection.{Rejection};
 ghost use Rattle.judging_tests.specs.Objects.{IsFaultTold, IsReasonTold, accepted_object};
 
 use figures::Form;
-use judge_run::{Outcome, Scope, TellFault, answer_check, answer_judge};
+use judge_run::{Detail, Outcome, Scope, TellFault, answer_check, answer_judge};
 use std::alloc::Global;
 use std::hash::BuildHasher;
 use std::io::Read;
@@ -14,7 +14,7 @@ use std::io::Read;
 pub fn an_accepted_text_has_its_own_calls<S: BuildHasher + Copy + Drop, R: Read>(
     alloc: Global,
     hash_builder: S,
-    explain: bool,
+    detail: Detail,
     reader: &mut R,
     out: &mut Vec<u8>,
 ) -> Result<Outcome, TellFault>
@@ -26,7 +26,7 @@ pub fn an_accepted_text_has_its_own_calls<S: BuildHasher + Copy + Drop, R: Read>
         hash_builder,
         Form::Json,
         Scope::WHOLE,
-        explain,
+        detail,
         reader,
         out,
     ) {
@@ -51,7 +51,7 @@ pub fn a_rejected_text_has_the_lines_of_its_reason<S: BuildHasher + Copy + Drop,
         hash_builder,
         Form::Json,
         Scope::WHOLE,
-        false,
+        Detail::NONE,
         reader,
         out,
     ) {
@@ -81,21 +81,13 @@ pub fn want_of_memory_leaves_the_output<S: BuildHasher + Copy + Drop, R: Read>(
     alloc: Global,
     hash_builder: S,
     form: Form,
-    explain: bool,
+    detail: Detail,
     reader: &mut R,
     out: &mut Vec<u8>,
 ) -> Result<Outcome, TellFault>
     ensures { result ≡ Err TellFault.OutOfMemory → out.new.items ≡ out.old.items }
 {
-    match answer_judge(
-        alloc,
-        hash_builder,
-        form,
-        Scope::WHOLE,
-        explain,
-        reader,
-        out,
-    ) {
+    match answer_judge(alloc, hash_builder, form, Scope::WHOLE, detail, reader, out) {
         Ok(outcome) => Ok(outcome),
         Err(fault) => Err(fault),
     }

@@ -1,6 +1,8 @@
 // Readers and writers that fail.
 use figures::Form;
-use judge_run::{Outcome, Scope, ShowRequest, TellFault, answer_check, answer_judge, show_with};
+use judge_run::{
+    Detail, Outcome, Scope, ShowRequest, TellFault, answer_check, answer_judge, show_with,
+};
 use std::alloc::{AllocError, Global};
 use std::hash::{BuildHasherDefault, FoldHasher};
 use std::io;
@@ -42,6 +44,12 @@ fn unasked() -> Failing {
     Failing { calls: 0, taken: 0 }
 }
 
+/// All that can be said of a history that is rejected.
+const EVERYTHING: Detail = Detail {
+    explain: true,
+    all: true,
+};
+
 /// Judges a text, and says what failed.
 fn fault_of_text<R: Read, W: Write>(
     alloc: Global,
@@ -54,7 +62,7 @@ fn fault_of_text<R: Read, W: Write>(
         known,
         Form::Lines,
         Scope::WHOLE,
-        true,
+        EVERYTHING,
         reader,
         writer,
     )

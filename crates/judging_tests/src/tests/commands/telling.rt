@@ -1,6 +1,6 @@
 // What is reported of histories, of traces, and of what is neither.
 use figures::Form;
-use judge_run::{JudgeEnd, Outcome, Scope, Shown, answer_check, answer_judge, answer_show};
+use judge_run::{Detail, JudgeEnd, Outcome, Scope, Shown, answer_check, answer_judge, answer_show};
 use std::alloc::Global;
 use std::hash::{BuildHasherDefault, FoldHasher};
 use trace_file::{Trace, TraceFault, write_trace};
@@ -9,10 +9,22 @@ use trace_file::{Trace, TraceFault, write_trace};
 #[derive(Clone, Copy)]
 struct Case {
     text: &'static str,
-    explain: bool,
+    detail: Detail,
     told: &'static str,
     end: JudgeEnd,
 }
+
+/// Why a history is rejected.
+const WHY: Detail = Detail {
+    explain: true,
+    all: false,
+};
+
+/// All its faults.
+const EACH: Detail = Detail {
+    explain: false,
+    all: true,
+};
 
 /// A stale hit.
 const STALE: &str =
@@ -26,102 +38,120 @@ the hit of red (line 3) is stale: put red (line 1) ended at 14, before put blue 
 * 3  carol  25  30  hit    red       []
 ";
 
+/// Three faults, at two keys: a call that ends before it starts, a hit of a value that was never put, and one that ends before it of
+/// a value that was replaced at 4.
+const FAULTS: &str =
+    "a 9 3 put q v\nb 10 20 hit k w\nc 1 2 put k x\nc 3 4 put k y\nd 6 8 hit k x\n";
+
+/// What is said of them, one by one.
+const LISTED: &str = "rejected interval key q lines 1
+fault interval key q lines 1
+fault hit key k lines 3 4 5 late 2
+fault hit key k lines 2
+";
+
 /// Texts, each with what is reported of it. The verdicts were worked out by hand.
-const CASES: [Case; 15] = [
+const CASES: [Case; 16] = [
     Case {
         text: "",
-        explain: true,
+        detail: WHY,
         told: "accepted 0 calls\n",
         end: JudgeEnd::Done,
     },
     Case {
         text: "a 1 4 put k v\nb 2 6 hit k v\na 5 8 remove k\n",
-        explain: true,
+        detail: WHY,
         told: "accepted 3 calls\n",
         end: JudgeEnd::Done,
     },
     Case {
         text: "a 5 - put k v\nb 9 12 hit k v\nc 1 2 miss k",
-        explain: false,
+        detail: Detail::NONE,
         told: "accepted 3 calls\n",
         end: JudgeEnd::Done,
     },
     Case {
         text: STALE,
-        explain: false,
+        detail: Detail::NONE,
         told: "rejected hit key color lines 1 2 3\n",
         end: JudgeEnd::Rejected,
     },
     Case {
         text: STALE,
-        explain: true,
+        detail: WHY,
         told: EXPLAINED,
         end: JudgeEnd::Rejected,
     },
     Case {
+        text: FAULTS,
+        detail: EACH,
+        told: LISTED,
+        end: JudgeEnd::Rejected,
+    },
+    Case {
         text: "# the clock ran back\na 9 3 put %2D -\n",
-        explain: false,
+        detail: Detail::NONE,
         told: "rejected interval key %2D lines 2\n",
         end: JudgeEnd::Rejected,
     },
     Case {
         text: "a 1 10 put k x\nb 1 10 put k y\nc 11 12 hit k x\nc 13 14 hit k y\nc 15 16 hit k x\n",
-        explain: false,
+        detail: Detail::NONE,
         told: "rejected crossed key k lines 1 2 4 5\n",
         end: JudgeEnd::Rejected,
     },
     Case {
         text: "a 1 2 put k v 7\nb 3 4 hit k v 7\n",
-        explain: false,
+        detail: Detail::NONE,
         told: "rejected hit key k lines 1 2\n",
         end: JudgeEnd::Rejected,
     },
     Case {
         text: "a 1 2 put k v 7\nb 3 4 hit k v 6\n",
-        explain: true,
+        detail: WHY,
         told: "accepted 2 calls\n",
         end: JudgeEnd::Done,
     },
     Case {
         text: "a 1 2 miss x\na 1 2 hit %2D -",
-        explain: false,
+        detail: Detail::NONE,
         told: "rejected hit key %2D lines 2\n",
         end: JudgeEnd::Rejected,
     },
     Case {
         text: "b 20 21 hit k%20 v\n\n#\na 5 6 put k%20 w\na 1 2 put k%20 v\n",
-        explain: false,
+        detail: Detail::NONE,
         told: "rejected hit key k%20 lines 1 4 5\n",
         end: JudgeEnd::Rejected,
     },
     Case {
         text: "a 1 2 put j v\na 5 6 put k w\nb 20 21 hit k v\n",
-        explain: false,
+        detail: Detail::NONE,
         told: "rejected hit key k lines 3\n",
         end: JudgeEnd::Rejected,
     },
     Case {
         text: "a 1 9 put k v\nb 2 8 put k v\nc 3 4 hit k v\n",
-        explain: true,
+        detail: WHY,
         told: "accepted 3 calls\n",
         end: JudgeEnd::Done,
     },
     Case {
         text: "a 0 9 put k v\nb 0 9 put k v\nc 0 9 put k w\nd 1 2 hit k w\ne 3 4 hit k v\nd 5 6 hit k w\n",
-        explain: true,
+        detail: WHY,
         told: "undecided 1 hits\n",
         end: JudgeEnd::Undecided,
     },
     Case {
         text: "a 1 2 put k v\n\n# bad\na 1 2 get k\n",
-        explain: true,
+        detail: WHY,
         told: "bad line 4: the fourth word must be put, hit, miss or remove\n",
         end: JudgeEnd::BadInput,
     },
 ];
 
 /// Judges a text by a table that hashes by a known seed, and says how it ends.
-fn judged(alloc: Global, text: &str, explain: bool, told: &mut Vec<u8>) -> Option<Outcome> {
+fn judged(alloc: Global, text: &str, detail: Detail, told: &mut Vec<u8>) -> Option<Outcome> {
     let known: BuildHasherDefault<FoldHasher> = BuildHasherDefault::new();
     let mut reader = text.as_bytes();
     answer_judge(
@@ -129,7 +159,7 @@ fn judged(alloc: Global, text: &str, explain: bool, told: &mut Vec<u8>) -> Optio
         known,
         Form::Lines,
         Scope::WHOLE,
-        explain,
+        detail,
         &mut reader,
         told,
     )
@@ -139,7 +169,7 @@ fn judged(alloc: Global, text: &str, explain: bool, told: &mut Vec<u8>) -> Optio
 /// Whether a case is told as it should be.
 fn is_as_told(alloc: Global, case: &Case) -> bool {
     let mut told: Vec<u8> = Vec::new(alloc);
-    match judged(alloc, case.text, case.explain, &mut told) {
+    match judged(alloc, case.text, case.detail, &mut told) {
         Some(outcome) => {
             told.as_slice() == case.told.as_bytes() && JudgeEnd::of_outcome(&outcome) == case.end
         }
@@ -157,7 +187,7 @@ fn each_text_has_its_verdict(rt: HostRuntime) {
 /// The bytes of the trace that a text gives.
 fn trace_of(alloc: Global, text: &str) -> Option<Vec<u8>> {
     let mut told: Vec<u8> = Vec::new(alloc);
-    match judged(alloc, text, false, &mut told) {
+    match judged(alloc, text, Detail::NONE, &mut told) {
         Some(Outcome::Accepted(trace)) => bytes_of(alloc, &trace),
         _ => None,
     }

@@ -1,0 +1,43 @@
+-- The report on a history that is rejected, part by part.
+use Rattle.std.proofs.Common.{◌≡◌, ◌∙◌, ℕ, Bool, List, ap, arith, length, string_bytes, subst}
+use Rattle.figures.specs.declared.form.Form.{Form}
+use Rattle.history_text.specs.Text.{text_by}
+use Rattle.judge_run.specs.CallObjects.{with_calls}
+use Rattle.judge_run.specs.FaultsTold.{listed, more_text}
+use Rattle.judge_run.specs.Told.{IsBehind}
+use Rattle.judge_run.specs.declared.rejection.Rejection.{Rejection}
+use Rattle.judge_run.proofs.judging_texts.told_rejected.Goals as goal
+
+same_behind : (form : Form) (explain : Bool) (rejection : Rejection) (told more wanted begun front : List ℕ) → more ≡ wanted → begun ≡ front → IsBehind form explain more rejection begun told → IsBehind form explain wanted rejection front told
+same_behind form explain rejection told more wanted begun front m b behind =
+    subst (λ (text : List ℕ). IsBehind form explain text rejection front told) m
+    (subst (λ (text : List ℕ). IsBehind form explain more rejection text told) b behind)
+
+pub returns : goal.returns
+returns g c =
+    let form = c.args.form in
+    let calls = c.args.text.history in
+    let lines = c.args.text.lines.items in
+    let faults = c.args.list.now.faults.items in
+    let begun =
+    c.in_ok-begun.ensures
+    ∙ ap (λ (ls : List ℕ). with_calls form calls ls c.args.witness (string_bytes c.args.begun)) c.deref.ensures.value
+    ∙ ap (with_calls form calls lines c.args.witness) c.requires.begun in
+    let all =
+    c.in_ok-begun-2.ensures
+    ∙ ap (λ fs. listed form c.args.detail.all calls lines fs (string_bytes c.in_ok-begun.begun)) c.deref-2.ensures.value
+    ∙ ap (listed form c.args.detail.all calls lines faults) begun in
+    let count : c.len.result ≡ length faults = omega (arith, c.len.ensures, c.args.list.now.faults.ok.0) in
+    let more =
+    c.as_str.ensures.value
+    ∙ c.in_ok-more.ensures
+    ∙ ap (λ n. more_text n c.args.list.now.keys) count
+    ∙ ap (more_text (length faults)) c.requires.list.keys in record {
+      text_is = ap (λ names. text_by calls lines names) (c.in_ok-copy_names.ensures ∙ c.names.ensures);
+      witness = c.args.witness;
+      is = c.requires.witness;
+      reason_is = c.of_witness.ensures;
+      faults = faults;
+      are_all = c.requires.list.faults;
+      behind = same_behind form c.args.detail.explain _ _ _ _ _ _ more all c.in_ok-text.ensures;
+    }

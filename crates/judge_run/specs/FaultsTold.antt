@@ -1,0 +1,55 @@
+-- How all faults of a history are told, and how many there are.
+use Rattle.std.specs.Prelude.{ℕ, ◌==◌, nat_lt, Bool, true, false, List, [], ◌∷◌, ◌++◌, map, if◌then◌else◌, codes, Option, Some, None}
+use Rattle.std.specs.Fmt.{decimal}
+use Rattle.std.specs.List.{flat_map}
+use Rattle.trace_file.specs.declared.call.Call.{Call}
+use Rattle.certificate_finder.specs.declared.witness.Witness.{Witness}
+use Rattle.figures.specs.declared.form.Form.{Form}
+use Rattle.figures.specs.declared.form.Form.TheVariants.{Lines, Json}
+use Rattle.figures.specs.Figures.{Row, number, row}
+use Rattle.judge_run.specs.Lateness.{late_of}
+use Rattle.judge_run.specs.Objects.{object_of, with_objects}
+use Rattle.judge_run.specs.ReasonRows.{reason_rows}
+use Rattle.judge_run.specs.Telling.{reason_text}
+
+-- how late a hit is, if that is known
+abbrev pub late_text : Option ℕ → List ℕ
+late_text None = []
+late_text (Some time) = codes " late " ++ decimal time
+
+-- the line of a fault of calls that stand on these lines, with the line feed
+abbrev pub fault_text : List Call → List ℕ → Witness → List ℕ
+fault_text calls lines fault =
+    codes "fault " ++ (reason_text calls lines fault ++ (late_text (late_of calls fault) ++ codes "\n"))
+
+-- how late a hit is, if that is known
+abbrev pub late_rows : Option ℕ → List Row
+late_rows None = []
+late_rows (Some time) = row (codes "late") (number time) ∷ []
+
+-- the rows of a fault
+abbrev pub fault_rows : List Call → List ℕ → Witness → List Row
+fault_rows calls lines fault = reason_rows calls lines fault ++ late_rows (late_of calls fault)
+
+-- the object of a fault
+abbrev pub fault_object : List Call → List ℕ → Witness → List ℕ
+fault_object calls lines fault = object_of (fault_rows calls lines fault)
+
+-- the answer to a history that is rejected, with all its faults: a line for each, or a member with an object for each
+abbrev pub with_faults : Form → List Call → List ℕ → List Witness → List ℕ → List ℕ
+with_faults Lines calls lines faults begun = begun ++ flat_map (fault_text calls lines) faults
+with_faults Json calls lines faults begun = with_objects begun (codes "faults") (map (fault_object calls lines) faults)
+
+-- the same if that is wanted
+abbrev pub listed : Form → Bool → List Call → List ℕ → List Witness → List ℕ → List ℕ
+listed form true calls lines faults begun = with_faults form calls lines faults begun
+listed form false calls lines faults begun = begun
+
+-- at how many keys faults are
+abbrev pub keys_text : ℕ → List ℕ
+keys_text keys = if keys == 1 then codes "one key" else decimal keys ++ codes " keys"
+
+-- how many faults there are, and at how many keys; nothing if there is no other one
+abbrev pub more_text : ℕ → ℕ → List ℕ
+more_text faults keys =
+    if nat_lt 1 faults then codes "this is one of " ++ (decimal faults ++ (codes " faults, at " ++ (keys_text keys ++ codes "\n"))) else []

@@ -1,0 +1,18 @@
+// What is reported of a history beside its verdict.
+
+/// What is wanted beside the verdict of a history that is rejected.
+#[derive(Clone, Copy, Debug, PartialEq, Eq)]
+pub struct Detail {
+    /// Whether it is said why the history is rejected.
+    pub explain: bool,
+    /// Whether all its faults are listed.
+    pub all: bool,
+}
+
+impl Detail {
+    /// The verdict alone.
+    pub const NONE: Detail = Detail {
+        explain: false,
+        all: false,
+    };
+}
