@@ -92,10 +92,13 @@ with_history app = with_rule (with_rule (with_rule (with_rule app file_rule) exp
 abbrev pub check_command : App
 check_command = with_history (new_app (codes "check"))
 
+-- a command with a flag for all faults, and options for the trace and the JUnit file that are to be written
+abbrev pub with_listing : App → App
+with_listing app = with_rule (with_rule (with_rule app all_rule) out_rule) junit_rule
+
 -- judge FILE, with three flags and five options
 abbrev pub judge_command : App
-judge_command =
-    with_rule (with_rule (with_rule (with_rule (with_rule (with_history (new_app (codes "judge"))) all_rule) out_rule) junit_rule) least_rule) skew_rule
+judge_command = with_rule (with_rule (with_listing (with_history (new_app (codes "judge")))) least_rule) skew_rule
 
 -- show FILE, with an option
 abbrev pub show_command : App

@@ -1,7 +1,7 @@
 // The program's command line, as `clap` reads it.
 ghost use Rattle.std.specs.Prelude.{◌≡◌, IfOk, false};
 ghost use Rattle.clap.specs.Words.{app_of, new_app, rule_of};
-ghost use Rattle.command_line.specs.CommandLine.{all_rule, check_command, device_rule, explain_rule, file_rule, json_rule, judge_command, junit_rule, key_rule, least_rule, option_rule, out_rule, picture_rule, program, run_command, script_command, scripts_program, serve_command, show_command, size_rule, skew_rule, trace_rule, with_history, with_judging, with_loads, zipf_rule};
+ghost use Rattle.command_line.specs.CommandLine.{all_rule, check_command, device_rule, explain_rule, file_rule, json_rule, judge_command, junit_rule, key_rule, least_rule, option_rule, out_rule, picture_rule, program, run_command, script_command, scripts_program, serve_command, show_command, size_rule, skew_rule, trace_rule, with_history, with_judging, with_listing, with_loads, zipf_rule};
 
 use crate::help;
 use crate::help::Help;
@@ -90,11 +90,18 @@ pub fn judge<'a>(alloc: Global) -> Result<Command<'a>, AllocError>
 {
     let judge = command(alloc, "judge", &help::JUDGE);
     let judge = with_history(alloc, judge, "File of the text, or - for standard input")?;
-    let listed = judge.arg(all(alloc))?;
-    let traced = listed.arg(out(alloc))?;
-    let shown = traced.arg(junit(alloc))?;
-    let counted = shown.arg(at_least(alloc))?;
+    let listed = with_listing(alloc, judge)?;
+    let counted = listed.arg(at_least(alloc))?;
     counted.arg(skew(alloc))
+}
+
+/// A command that lists all faults if that is wanted, and writes a trace and a JUnit file.
+fn with_listing<'a>(alloc: Global, command: Command<'a>) -> Result<Command<'a>, AllocError>
+    ensures { IfOk result (λ c. app_of c ≡ with_listing (app_of command.entry)) }
+{
+    let listed = command.arg(all(alloc))?;
+    let traced = listed.arg(out(alloc))?;
+    traced.arg(junit(alloc))
 }
 
 /// A command that judges the history in a file, which means this.
