@@ -50,7 +50,7 @@ const TURNED: &[u8] =
 /// A hit of `v` starts 5 after the put of `w` has ended, which starts 10 after the put of `v` has ended.
 const STALE: &[u8] = b"a 0 10 put k v\nb 20 30 put k w\nc 35 40 hit k v\n";
 
-const STEPS: [Step; 42] = [
+const STEPS: [Step; 43] = [
     // what is no file is no trace
     Step::Check("there is no such file", 3),
     Step::Check(".", 2),
@@ -105,6 +105,7 @@ const STEPS: [Step; 42] = [
     Step::NoPicture,
     Step::Remove("judged.txt"),
     Step::Remove("judged.trace"),
+    Step::Remove("judged.xml"),
 ];
 
 /// What these steps write.
