@@ -57,7 +57,7 @@ fn add_side(positions: &mut Vec<u32>, side: &Side) -> Result<(), AllocError>
 }
 
 /// The calls that a reason speaks of.
-fn positions_of(alloc: Global, witness: &Witness) -> Result<Vec<u32>, AllocError>
+pub(crate) fn positions_of(alloc: Global, witness: &Witness) -> Result<Vec<u32>, AllocError>
     ensures { IfOk result (λ positions. positions.items ≡ witness_positions witness.now) }
 {
     let mut positions = Vec::new(alloc);
@@ -94,7 +94,7 @@ fn put_in(lines: &mut Vec<u32>, line: u32) -> Result<(), AllocError>
 }
 
 /// Puts the line of the call at a position at its place among others, if there is one.
-fn put_line(lines: &mut Vec<u32>, all: &[u32], position: u32) -> Result<(), AllocError>
+pub(crate) fn put_line(lines: &mut Vec<u32>, all: &[u32], position: u32) -> Result<(), AllocError>
     ensures { OnOk result (lines.new.items
         ≡ fold put_in lines.old.items (lines_at all.now (position ∷ []))) }
 {
