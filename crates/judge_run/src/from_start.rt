@@ -1,10 +1,9 @@
 // Telling of the puts that were added for values that were there from the start.
-ghost use Rattle.std.specs.Prelude.{◌≡◌, ◌++◌, IfOk, OnOk, fold, string_bytes};
+ghost use Rattle.std.specs.Prelude.{◌≡◌, ◌++◌, ◌∷◌, [], IfOk, OnOk, string_bytes};
 ghost use Rattle.figures.specs.Figures.{with_rows};
 ghost use Rattle.judge_run.specs.FromStart.{added_among, start_lines, start_rows, start_text, start_why};
-ghost use Rattle.judge_run.specs.Telling.{put_in, ascending, lines_at};
 
-use crate::told_lines::{positions_of, put_line};
+use crate::told_lines::{ascending_lines, positions_of};
 use certificate_finder::Witness;
 use figures::{Figure, Form};
 use std::alloc::{AllocError, Global};
@@ -20,32 +19,35 @@ pub(crate) fn start_lines(
     ensures { IfOk result (λ told. told.items ≡ start_lines lines.now recorded witness.now) }
 {
     let positions = positions_of(alloc, witness)?;
-    let mut told = Vec::new(alloc);
-    for position in &positions {
-        match put_added(&mut told, lines, recorded, *position) {
-            Ok(()) => {}
-            Err(refused) => return Err(refused),
-        }
+    let added = added_among(alloc, recorded, &positions)?;
+    match ascending_lines(alloc, lines, &added) {
+        Ok(told) => Ok(told),
+        Err(refused) => Err(refused),
     }
-    Ok(told)
 }
 
-/// Puts the line of the call at a position at its place among others, if the call was added.
-fn put_added(
-    told: &mut Vec<u32>,
-    lines: &[u32],
-    recorded: usize,
-    position: u32,
-) -> Result<(), AllocError>
-    ensures { OnOk result (told.new.items
-        ≡ fold put_in told.old.items (lines_at lines.now (added_among recorded (position ∷ [])))) }
+/// Those of these positions at which puts were added, if so many calls were recorded.
+fn added_among(alloc: Global, recorded: usize, positions: &[u32]) -> Result<Vec<u32>, AllocError>
+    ensures { IfOk result (λ added. added.items ≡ added_among recorded positions.now) }
+{
+    let mut added = Vec::new(alloc);
+    for position in positions {
+        add_if_added(&mut added, recorded, *position)?;
+    }
+    Ok(added)
+}
+
+/// Appends a position if a put was added there.
+fn add_if_added(added: &mut Vec<u32>, recorded: usize, position: u32) -> Result<(), AllocError>
+    ensures { OnOk result (added.new.items
+        ≡ added.old.items ++ added_among recorded (position ∷ [])) }
 {
     if (position as usize) < recorded {
         return Ok(());
     }
-    match put_line(told, lines, position) {
+    match added.push(position) {
         Ok(()) => Ok(()),
-        Err(refused) => Err(refused),
+        Err(_) => Err(AllocError),
     }
 }
 

@@ -45,7 +45,8 @@ impl Rejection {
     {
         let explained = explanation(alloc, &self.scene(), &self.reason)?;
         let start = start_why(alloc, &self.from_start)?;
-        with_more(explained, start.as_str())
+        let why = with_more(explained, start.as_str())?;
+        Ok(why)
     }
 
     /// The answer that was begun with its verdict, and after that its explanation with this text at its end, if that is wanted.

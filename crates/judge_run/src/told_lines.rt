@@ -94,7 +94,7 @@ fn put_in(lines: &mut Vec<u32>, line: u32) -> Result<(), AllocError>
 }
 
 /// Puts the line of the call at a position at its place among others, if there is one.
-pub(crate) fn put_line(lines: &mut Vec<u32>, all: &[u32], position: u32) -> Result<(), AllocError>
+fn put_line(lines: &mut Vec<u32>, all: &[u32], position: u32) -> Result<(), AllocError>
     ensures { OnOk result (lines.new.items
         ≡ fold put_in lines.old.items (lines_at all.now (position ∷ []))) }
 {
@@ -116,8 +116,22 @@ pub(crate) fn lines_of(
         told.items ≡ ascending (lines_at lines.now (witness_positions witness.now))) }
 {
     let positions = positions_of(alloc, witness)?;
+    match ascending_lines(alloc, lines, &positions) {
+        Ok(told) => Ok(told),
+        Err(refused) => Err(refused),
+    }
+}
+
+/// The lines of the calls at these positions, ascending and each once.
+pub(crate) fn ascending_lines(
+    alloc: Global,
+    lines: &[u32],
+    positions: &[u32],
+) -> Result<Vec<u32>, AllocError>
+    ensures { IfOk result (λ told. told.items ≡ ascending (lines_at lines.now positions.now)) }
+{
     let mut told = Vec::new(alloc);
-    for position in &positions {
+    for position in positions {
         match put_line(&mut told, lines, *position) {
             Ok(()) => {}
             Err(refused) => return Err(refused),
