@@ -236,7 +236,7 @@ fn warm<'a>(alloc: Global) -> Arg<'a>
     Arg::new(alloc, "warm")
         .long("warm")
         .action(ArgAction::SetTrue)
-        .help("Take values that were read and never put as there from the start, one of a\nkey")
+        .help("Take values that were read and never put as there from the start,\none of a key")
 }
 
 /// The key whose calls alone are written.
