@@ -32,7 +32,7 @@ _kangaroo() {
             '') COMPREPLY=($(compgen -W '--unproved -h --help -V --version' -- "$word")) ;;
             script) COMPREPLY=($(compgen -W '-h --help' -- "$word")) ;;
             check) COMPREPLY=($(compgen -W '--explain --json --picture -h --help' -- "$word")) ;;
-            judge) COMPREPLY=($(compgen -W '--explain --json --picture --all --trace --junit --at-least --skew -h --help' -- "$word")) ;;
+            judge) COMPREPLY=($(compgen -W '--explain --json --picture --all --trace --junit --at-least --skew --warm -h --help' -- "$word")) ;;
             show) COMPREPLY=($(compgen -W '--key -h --help' -- "$word")) ;;
             run) COMPREPLY=($(compgen -W '--device --trace --json -h --help --lanes --sets --memory --segments --segment-pages --entries --threshold --admit --callers --operations --keys --value-bytes --gets --removes --workers --seed --ttl' -- "$word")) ;;
             serve-load) COMPREPLY=($(compgen -W '--device --json -h --help --lanes --sets --memory --segments --segment-pages --entries --threshold --admit --shards --leases --bring-back --size --memory-bytes --callers --operations --keys --value-bytes --gets --removes --workers --seed --ttl --seconds --zipf' -- "$word")) ;;

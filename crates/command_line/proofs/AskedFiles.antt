@@ -24,10 +24,10 @@ module _ (rows : List Row) where
         ap (option_map (λ f. Checked f (is_on (codes "explain") rows) (is_on (codes "json") rows) (first_of (codes "picture") rows))) (sym found)
         ∙ (λ i. Some (Checked file (sym e i) (sym j i) (sym p i)))
 
-    pub asks_judging : (asked : Judging) → asked.file ≡ file → asked.explain ≡ is_on (codes "explain") rows → asked.all ≡ is_on (codes "all") rows → asked.json ≡ is_on (codes "json") rows → asked.picture ≡ first_of (codes "picture") rows → asked.trace ≡ first_of (codes "trace") rows → asked.junit ≡ first_of (codes "junit") rows → judge_wanted_of rows asked.least asked.skew ≡ Some (Judged asked)
-    asks_judging asked f e a j p t u =
+    pub asks_judging : (asked : Judging) → asked.file ≡ file → asked.explain ≡ is_on (codes "explain") rows → asked.all ≡ is_on (codes "all") rows → asked.json ≡ is_on (codes "json") rows → asked.picture ≡ first_of (codes "picture") rows → asked.trace ≡ first_of (codes "trace") rows → asked.junit ≡ first_of (codes "junit") rows → asked.warm ≡ is_on (codes "warm") rows → judge_wanted_of rows asked.least asked.skew ≡ Some (Judged asked)
+    asks_judging asked f e a j p t u w =
         ap (option_map (λ (name : Text). Judged (judging_of rows asked.least asked.skew name))) (sym found)
-        ∙ (λ i. Some (Judged (record { file = sym f i; explain = sym e i; all = sym a i; json = sym j i; picture = sym p i; trace = sym t i; junit = sym u i; least = asked.least; skew = asked.skew })))
+        ∙ (λ i. Some (Judged (record { file = sym f i; explain = sym e i; all = sym a i; json = sym j i; picture = sym p i; trace = sym t i; junit = sym u i; least = asked.least; skew = asked.skew; warm = sym w i })))
 
     pub asks_showing : (key : Option Text) → key ≡ first_of (codes "key") rows → show_wanted rows ≡ Some (Shown file key)
     asks_showing key k =

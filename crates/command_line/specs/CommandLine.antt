@@ -1,5 +1,5 @@
 -- The program's command line: what it takes, and what its words ask for.
-use Rattle.std.specs.Prelude.{◌≡◌, ◌≢◌, ◌⊎◌, ◌&&◌, ℕ, Bool, List, [], ◌∷◌, Option, Some, None, codes, fold, is_some, map, nat_le, nat_lt, not, option_and_then, option_map, string_bytes, true, false, unwrap_or, if◌then◌else◌}
+use Rattle.std.specs.Prelude.{◌≡◌, ◌≢◌, ◌⊎◌, ◌&&◌, ◌||◌, ℕ, Bool, List, [], ◌∷◌, Option, Some, None, codes, fold, is_some, map, nat_le, nat_lt, not, option_and_then, option_map, string_bytes, true, false, unwrap_or, if◌then◌else◌}
 use Rattle.std.specs.List.{find, list_all}
 use Rattle.std.specs.Option.{option_map_or}
 use Rattle.std.specs.Str.{bytes_eq}
@@ -80,6 +80,10 @@ least_rule = record (new_rule (codes "at-least")) { long = Some (codes "at-least
 abbrev pub skew_rule : Rule
 skew_rule = record (new_rule (codes "skew")) { long = Some (codes "skew"); value_names = 1 }
 
+-- whether values that were there from the start are taken as such
+abbrev pub warm_rule : Rule
+warm_rule = record (new_rule (codes "warm")) { long = Some (codes "warm"); action = Some SetTrue }
+
 -- the key whose calls alone are written
 abbrev pub key_rule : Rule
 key_rule = record (new_rule (codes "key")) { long = Some (codes "key"); value_names = 1 }
@@ -96,9 +100,9 @@ check_command = with_history (new_app (codes "check"))
 abbrev pub with_listing : App → App
 with_listing app = with_rule (with_rule (with_rule app all_rule) out_rule) junit_rule
 
--- judge FILE, with three flags and five options
+-- judge FILE, with four flags and five options
 abbrev pub judge_command : App
-judge_command = with_rule (with_rule (with_listing (with_history (new_app (codes "judge")))) least_rule) skew_rule
+judge_command = with_rule (with_rule (with_rule (with_listing (with_history (new_app (codes "judge")))) least_rule) skew_rule) warm_rule
 
 -- show FILE, with an option
 abbrev pub show_command : App
@@ -142,7 +146,8 @@ program = with_loads (with_judging scripts_program)
 
 -- a history that is to be judged: its file; whether it is said why it is rejected, whether all its faults are listed, and whether that
 -- is told as a JSON object; the files that a picture of why it is rejected is drawn to, that it is written to as a trace, and that what
--- came of it is written to as JUnit has it, if they are named; how many calls it has to have if it is accepted; and by how much its stamps may differ from the truth
+-- came of it is written to as JUnit has it, if they are named; how many calls it has to have if it is accepted; by how much its stamps may differ from the truth;
+-- and whether values may have been there from the start
 pub record Judging : Type 0 where
   pub file : Text
   pub explain : Bool
@@ -153,6 +158,7 @@ pub record Judging : Type 0 where
   pub junit : Option Text
   pub least : ℕ
   pub skew : ℕ
+  pub warm : Bool
 
 -- that a script is answered; that the trace in a file of this name is judged, with why it is rejected if the first flag is on, told as
 -- a JSON object if the second is, and drawn to this file if one is named; that a history is judged; that the trace in a file of this name is written as text, only the calls of this
@@ -182,6 +188,7 @@ wanted_of (Judge request) = Judged (record {
   junit = request.junit;
   least = request.at_least;
   skew = request.scope.skew;
+  warm = request.scope.warm;
 })
 wanted_of (Show request) = Shown request.file (option_map string_bytes request.key)
 wanted_of (Run load) = Loaded (numbers_of load) load.json load.device load.trace
@@ -228,14 +235,15 @@ judging_of rows least skew file = record {
   junit = first_of (codes "junit") rows;
   least = least;
   skew = skew;
+  warm = is_on (codes "warm") rows;
 }
 
 abbrev pub judge_wanted_of : List Row → ℕ → ℕ → Option Wanted
 judge_wanted_of rows least skew = option_map (λ file. Judged (judging_of rows least skew file)) (first_of (codes "FILE") rows)
 
--- the same, unless a trace is to be written of calls whose stamps may differ
+-- the same, unless a trace is to be written of calls whose stamps may differ, or of puts that were added
 abbrev pub judge_wanted_by : List Row → ℕ → ℕ → Option Wanted
-judge_wanted_by rows least skew = if is_some (first_of (codes "trace") rows) && nat_lt 0 skew then None else judge_wanted_of rows least skew
+judge_wanted_by rows least skew = if is_some (first_of (codes "trace") rows) && (nat_lt 0 skew || is_on (codes "warm") rows) then None else judge_wanted_of rows least skew
 
 -- the judging that was found
 abbrev pub judge_wanted_with : List Row → ℕ → Option Wanted

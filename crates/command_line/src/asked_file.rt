@@ -150,7 +150,7 @@ fn judge_line_with<'a>(
 }
 
 /// The same, if each stamp may differ from the truth by so much. Then no trace is written, since its calls would be wider than those
-/// that were recorded.
+/// that were recorded; nor is one with puts of what was there from the start.
 fn judge_line_by<'a>(
     alloc: Global,
     found: &ArgMatches<'a>,
@@ -163,8 +163,12 @@ fn judge_line_by<'a>(
     ensures taken { IsSome (judge_wanted_by (rows_of (found_of found.now)) at_least skew)
         → IfErr result (λ fault. fault ≡ LineFault.OutOfMemory) }
 {
-    if has_trace(found) && skew > 0 {
-        return Err(not_with_trace(alloc));
+    let traced = has_trace(found);
+    if traced && skew > 0 {
+        return Err(not_with_trace(alloc, "skew", "calls with other times"));
+    }
+    if traced && is_on(found, "warm") {
+        return Err(not_with_trace(alloc, "warm", "puts that were not recorded"));
     }
     match judging_line(alloc, found, at_least, skew) {
         Ok(line) => Ok(line),
@@ -205,6 +209,7 @@ fn judging_line<'a>(
     let picture = file_found(alloc, found, "picture")?;
     let trace = file_found(alloc, found, "trace")?;
     let junit = file_found(alloc, found, "junit")?;
+    let warm = is_on(found, "warm");
     Ok(Line::Judge(JudgeRequest {
         file,
         detail: Detail { explain, all },
@@ -213,7 +218,7 @@ fn judging_line<'a>(
         trace,
         junit,
         at_least,
-        scope: Scope { skew },
+        scope: Scope { skew, warm },
     }))
 }
 

@@ -1,7 +1,7 @@
 // The program's command line, as `clap` reads it.
 ghost use Rattle.std.specs.Prelude.{◌≡◌, IfOk, false};
 ghost use Rattle.clap.specs.Words.{app_of, new_app, rule_of};
-ghost use Rattle.command_line.specs.CommandLine.{all_rule, check_command, device_rule, explain_rule, file_rule, json_rule, judge_command, junit_rule, key_rule, least_rule, option_rule, out_rule, picture_rule, program, run_command, script_command, scripts_program, serve_command, show_command, size_rule, skew_rule, trace_rule, with_history, with_judging, with_listing, with_loads, zipf_rule};
+ghost use Rattle.command_line.specs.CommandLine.{all_rule, check_command, device_rule, explain_rule, file_rule, json_rule, judge_command, junit_rule, key_rule, least_rule, option_rule, out_rule, picture_rule, program, run_command, script_command, scripts_program, serve_command, show_command, size_rule, skew_rule, trace_rule, warm_rule, with_history, with_judging, with_listing, with_loads, zipf_rule};
 
 use crate::help;
 use crate::help::Help;
@@ -92,7 +92,8 @@ pub fn judge<'a>(alloc: Global) -> Result<Command<'a>, AllocError>
     let judge = with_history(alloc, judge, "File of the text, or - for standard input")?;
     let listed = with_listing(alloc, judge)?;
     let counted = listed.arg(at_least(alloc))?;
-    counted.arg(skew(alloc))
+    let widened = counted.arg(skew(alloc))?;
+    widened.arg(warm(alloc))
 }
 
 /// A command that lists all faults if that is wanted, and writes a trace and a JUnit file.
@@ -225,6 +226,17 @@ fn skew<'a>(alloc: Global) -> Arg<'a>
         .help(
             "Judge as if each time might be wrong by so much, in the unit of the\ninput's times, 0 to 9223372036854775807. [default: 0]",
         )
+}
+
+/// Whether values that were there from the start are taken as such.
+fn warm<'a>(alloc: Global) -> Arg<'a>
+    ensures rule { rule_of result ≡ warm_rule }
+    ensures local { result.global ≡ false }
+{
+    Arg::new(alloc, "warm")
+        .long("warm")
+        .action(ArgAction::SetTrue)
+        .help("Take values that were read and never put as there from the start,\none of a key")
 }
 
 /// The key whose calls alone are written.

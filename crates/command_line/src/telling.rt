@@ -113,23 +113,23 @@ pub fn no_number_to(alloc: Global, option: &'static str, most: u64, given: &str)
     no_range(alloc, Loading::Judge, &range, given)
 }
 
-/// What is reported if a trace is to be written of calls whose stamps may differ from the truth.
-pub fn not_with_trace(alloc: Global) -> LineFault
+/// What is reported if a trace is to be written with this option of `judge`, with which it would hold this.
+pub fn not_with_trace(alloc: Global, option: &str, held: &str) -> LineFault
     ensures { IsUsage result }
 {
-    match trace_error(alloc) {
+    match trace_error(alloc, option, held) {
         Ok(error) => usage_of(alloc, &error),
         Err(_) => LineFault::OutOfMemory,
     }
 }
 
 /// The same, as `clap` words it.
-fn trace_error(alloc: Global) -> Result<clap::Error, AllocError> {
+fn trace_error(alloc: Global, option: &str, held: &str) -> Result<clap::Error, AllocError> {
     let mut command = judge(alloc)?.bin_name("kangaroo judge")?;
-    command.error(
-        ErrorKind::ArgumentConflict,
-        "--trace can't be given with --skew, since it would hold calls with other times: leave --trace or --skew out",
-    )
+    let message = format!(in alloc;
+        "--trace can't be given with --{option}, since it would hold {held}: leave --trace or --{option} out"
+    )?;
+    command.error(ErrorKind::ArgumentConflict, message.as_str())
 }
 
 /// What is reported if this setting is given with a size, which determines it.

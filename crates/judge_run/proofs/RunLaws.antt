@@ -1,5 +1,5 @@
 -- What was written, by the answer and the status.
-use Rattle.std.proofs.Common.{◌≡◌, ◌≢◌, ℕ, arith, nat_lt, length, refl, false, Bool, List, Option, Result, Ok, Err, IfOk, ap, ◌∙◌, inl, inr}
+use Rattle.std.proofs.Common.{◌≡◌, ◌≢◌, ℕ, arith, nat_lt, refl, false, Bool, List, Option, Result, Ok, Err, IfOk, ap, ◌∙◌, inl, inr}
 use Rattle.std.proofs.lemmas.Bool.Decides.{nat_tests}
 use Rattle.figures.specs.declared.form.Form.{Form}
 use Rattle.judge_run.specs.declared.judge_end.JudgeEnd.{JudgeEnd}
@@ -16,7 +16,7 @@ not_below n = grind (arith, nat_tests)
 
 -- no history has too few calls if it may have none
 none_is_few : (outcome : Outcome) → end_at_least 0 outcome ≡ end_of_outcome outcome
-none_is_few (Accepted trace) = rw (not_below (length trace.history)) refl
+none_is_few (Accepted acceptance) = rw (not_below acceptance.recorded) refl
 none_is_few (Rejected rejection) = refl
 none_is_few (Undecided hits) = refl
 none_is_few (BadLine bad) = refl

@@ -39,7 +39,7 @@ begins Lines false rejection line rows told is = alone Lines line rows told is
 begins Json false rejection line rows told is = alone Json line rows told is
 
 pub of_pair : (form : Form) (known left : Option (List ℕ)) (explain : Bool) (trace : Trace) (outcome : Outcome) (told : List ℕ) → IfSome known (λ bytes. IsTrace bytes trace.history trace.certificate) → IsAtEnd left → IsPairTold form trace explain outcome told → IsTraceTold form known left explain outcome told
-of_pair form known left explain trace (Accepted pair) told read end is =
+of_pair form known left explain trace (Accepted acceptance) told read end is =
     let calls = length trace.history in
     let line = verdict_line verdicts.Accepted calls in
     let rows = check_rows calls verdicts.Accepted in (
@@ -47,9 +47,9 @@ of_pair form known left explain trace (Accepted pair) told read end is =
       record {
         line = line;
         rows = rows;
-        line_on = line_on_trace known left trace kinds.Accepted line read end (record { verdict = verdicts.Accepted; is = is.1; kind = refl; line_is = refl });
-        rows_on = rows_on_trace known left trace kinds.Accepted rows read end (record { verdict = verdicts.Accepted; is = is.1; kind = refl; rows_are = refl });
-        begins = alone form line rows told is.2;
+        line_on = line_on_trace known left trace kinds.Accepted line read end (record { verdict = verdicts.Accepted; is = is.2; kind = refl; line_is = refl });
+        rows_on = rows_on_trace known left trace kinds.Accepted rows read end (record { verdict = verdicts.Accepted; is = is.2; kind = refl; rows_are = refl });
+        begins = alone form line rows told is.3;
       },
     )
 of_pair form known left explain trace (Rejected rejection) told read end is =

@@ -1,5 +1,5 @@
 -- The objects of the calls that a reason speaks of.
-use Rattle.std.specs.Prelude.{ℕ, List, [], ◌∷◌, ◌++◌, codes, map, Option, Some, None, slice_get}
+use Rattle.std.specs.Prelude.{ℕ, Bool, true, false, nat_lt, List, [], ◌∷◌, ◌++◌, codes, map, Option, Some, None, slice_get}
 use Rattle.trace_file.specs.declared.act.Act.{Act}
 use Rattle.trace_file.specs.declared.act.Act.TheVariants.{Put, Remove, Hit, Miss}
 use Rattle.trace_file.specs.declared.call.Call.{Call}
@@ -38,27 +38,32 @@ call_rows call =
     ∷ row (codes "end") (number call.end)
     ∷ act_rows call.act
 
--- the line of a call, if it has one
-abbrev pub line_rows : Option ℕ → List Row
-line_rows None = []
-line_rows (Some line) = row (codes "line") (number line) ∷ []
+-- what the line of a call tells: where it was recorded, or where a value that was there from the start was read first
+abbrev pub line_name : Bool → List ℕ
+line_name true = codes "line"
+line_name false = codes "from-start-line"
+
+-- the line of a call, if it has one, and whether the call was recorded
+abbrev pub line_rows : Bool → Option ℕ → List Row
+line_rows is_recorded None = []
+line_rows is_recorded (Some line) = row (line_name is_recorded) (number line) ∷ []
 
 -- a call, if there is one
 abbrev pub call_rows_of : Option Call → List Row
 call_rows_of None = []
 call_rows_of (Some call) = call_rows call
 
--- the object of the call at a position
-abbrev pub call_object : List Call → List ℕ → ℕ → List ℕ
-call_object calls lines position =
-    object_of (line_rows (slice_get lines position) ++ call_rows_of (slice_get calls position))
+-- the object of the call at a position, if so many calls were recorded
+abbrev pub call_object : List Call → List ℕ → ℕ → ℕ → List ℕ
+call_object calls lines recorded position =
+    object_of (line_rows (nat_lt position recorded) (slice_get lines position) ++ call_rows_of (slice_get calls position))
 
 -- the calls that a reason speaks of, in the order of the history, each once
 abbrev pub told_positions : Witness → List ℕ
 told_positions witness = ascending (witness_positions witness)
 
 -- an answer that was begun with a reason, with a member more, which lists the objects of the calls that it speaks of; nothing more after a line
-abbrev pub with_calls : Form → List Call → List ℕ → Witness → List ℕ → List ℕ
-with_calls Lines calls lines witness begun = begun
-with_calls Json calls lines witness begun =
-    with_objects begun (codes "calls-of-fault") (map (call_object calls lines) (told_positions witness))
+abbrev pub with_calls : Form → List Call → List ℕ → ℕ → Witness → List ℕ → List ℕ
+with_calls Lines calls lines recorded witness begun = begun
+with_calls Json calls lines recorded witness begun =
+    with_objects begun (codes "calls-of-fault") (map (call_object calls lines recorded) (told_positions witness))

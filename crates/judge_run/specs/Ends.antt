@@ -1,5 +1,5 @@
 -- How the program ends.
-use Rattle.std.specs.Prelude.{◌≡◌, ◌⊎◌, ℕ, Result, Ok, Err, length, nat_lt, if◌then◌else◌}
+use Rattle.std.specs.Prelude.{◌≡◌, ◌⊎◌, ℕ, Result, Ok, Err, nat_lt, if◌then◌else◌}
 use Rattle.judge_run.specs.declared.judge_end.JudgeEnd.{JudgeEnd}
 use Rattle.judge_run.specs.declared.judge_end.JudgeEnd.TheVariants as ends
 use Rattle.judge_run.specs.declared.outcome.Outcome.{Outcome}
@@ -11,15 +11,15 @@ use Rattle.judge_run.specs.declared.tell_fault.TellFault.TheVariants.{OutOfMemor
 
 -- how it ends, by the outcome of judging
 abbrev pub end_of_outcome : Outcome → JudgeEnd
-end_of_outcome (Accepted trace) = ends.Done
+end_of_outcome (Accepted acceptance) = ends.Done
 end_of_outcome (Rejected rejection) = ends.Rejected
 end_of_outcome (Undecided hits) = ends.Undecided
 end_of_outcome (BadLine bad) = ends.BadInput
 end_of_outcome (BadTrace fault) = ends.BadInput
 
--- how it ends, by the outcome of judging, if an accepted history has to have so many calls
+-- how it ends, by the outcome of judging, if an accepted history has to have so many calls; puts that were added don't count
 abbrev pub end_at_least : ℕ → Outcome → JudgeEnd
-end_at_least least (Accepted trace) = if nat_lt (length trace.history) least then ends.TooFew else ends.Done
+end_at_least least (Accepted acceptance) = if nat_lt acceptance.recorded least then ends.TooFew else ends.Done
 end_at_least least (Rejected rejection) = ends.Rejected
 end_at_least least (Undecided hits) = ends.Undecided
 end_at_least least (BadLine bad) = ends.BadInput

@@ -10,6 +10,7 @@ use Rattle.figures.specs.Figures.{Row, number, row}
 use Rattle.judge_run.specs.Lateness.{late_of}
 use Rattle.judge_run.specs.Objects.{object_of, with_objects}
 use Rattle.judge_run.specs.ReasonRows.{reason_rows}
+use Rattle.judge_run.specs.FromStart.{start_lines, start_text}
 use Rattle.judge_run.specs.Telling.{reason_text}
 
 -- how late a hit is, if that is known
@@ -17,10 +18,10 @@ abbrev pub late_text : Option ℕ → List ℕ
 late_text None = []
 late_text (Some time) = codes " late " ++ decimal time
 
--- the line of a fault of calls that stand on these lines, with the line feed
-abbrev pub fault_text : List Call → List ℕ → Witness → List ℕ
-fault_text calls lines fault =
-    codes "fault " ++ (reason_text calls lines fault ++ (late_text (late_of calls fault) ++ codes "\n"))
+-- the line of a fault of calls that stand on these lines, of which so many were recorded, with the line feed
+abbrev pub fault_text : List Call → List ℕ → ℕ → Witness → List ℕ
+fault_text calls lines recorded fault =
+    codes "fault " ++ (reason_text calls lines fault ++ (late_text (late_of calls fault) ++ (start_text (start_lines lines recorded fault) ++ codes "\n")))
 
 -- how late a hit is, if that is known
 abbrev pub late_rows : Option ℕ → List Row
@@ -28,22 +29,22 @@ late_rows None = []
 late_rows (Some time) = row (codes "late") (number time) ∷ []
 
 -- the rows of a fault
-abbrev pub fault_rows : List Call → List ℕ → Witness → List Row
-fault_rows calls lines fault = reason_rows calls lines fault ++ late_rows (late_of calls fault)
+abbrev pub fault_rows : List Call → List ℕ → ℕ → Witness → List Row
+fault_rows calls lines recorded fault = reason_rows calls lines recorded fault ++ late_rows (late_of calls fault)
 
 -- the object of a fault
-abbrev pub fault_object : List Call → List ℕ → Witness → List ℕ
-fault_object calls lines fault = object_of (fault_rows calls lines fault)
+abbrev pub fault_object : List Call → List ℕ → ℕ → Witness → List ℕ
+fault_object calls lines recorded fault = object_of (fault_rows calls lines recorded fault)
 
 -- the answer to a history that is rejected, with all its faults: a line for each, or a member with an object for each
-abbrev pub with_faults : Form → List Call → List ℕ → List Witness → List ℕ → List ℕ
-with_faults Lines calls lines faults begun = begun ++ flat_map (fault_text calls lines) faults
-with_faults Json calls lines faults begun = with_objects begun (codes "faults") (map (fault_object calls lines) faults)
+abbrev pub with_faults : Form → List Call → List ℕ → ℕ → List Witness → List ℕ → List ℕ
+with_faults Lines calls lines recorded faults begun = begun ++ flat_map (fault_text calls lines recorded) faults
+with_faults Json calls lines recorded faults begun = with_objects begun (codes "faults") (map (fault_object calls lines recorded) faults)
 
 -- the same if that is wanted
-abbrev pub listed : Form → Bool → List Call → List ℕ → List Witness → List ℕ → List ℕ
-listed form true calls lines faults begun = with_faults form calls lines faults begun
-listed form false calls lines faults begun = begun
+abbrev pub listed : Form → Bool → List Call → List ℕ → ℕ → List Witness → List ℕ → List ℕ
+listed form true calls lines recorded faults begun = with_faults form calls lines recorded faults begun
+listed form false calls lines recorded faults begun = begun
 
 -- at how many keys faults are
 abbrev pub keys_text : ℕ → List ℕ

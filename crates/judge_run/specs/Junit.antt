@@ -2,9 +2,8 @@
 use Rattle.std.specs.Prelude.{◌≡◌, ℕ, nat_lt, List, [], ◌++◌, length, if◌then◌else◌, codes}
 use Rattle.std.specs.Fmt.{decimal}
 use Rattle.certificate_checker.specs.VerdictLine.{bad_trace_line}
-use Rattle.history_picture.specs.Names.{names_of}
-use Rattle.history_picture.specs.Shown.{IsExplanation}
 use Rattle.history_text.specs.Causes.{bad_line_text}
+use Rattle.judge_run.specs.Told.{IsWhy}
 use Rattle.judge_run.specs.Xml.{xml_text}
 use Rattle.judge_run.specs.declared.outcome.Outcome.{Outcome}
 use Rattle.judge_run.specs.declared.outcome.Outcome.TheVariants.{Accepted, Rejected, Undecided, BadLine, BadTrace}
@@ -56,12 +55,12 @@ undecided_junit name hits = erred_text name (codes "undecided " ++ (decimal hits
 -- the history is rejected: the test failed, and its text is why the history is rejected
 pub record IsFailed (name : List ℕ) (rejection : Rejection) (text : List ℕ) : Type 0 where
   pub why : List ℕ
-  pub is : IsExplanation rejection.history rejection.lines.items (names_of rejection.callers.items) rejection.reason why
+  pub is : IsWhy rejection why
   pub text_is : text ≡ failed_text name why
 
 -- the file of a judgement of this name, if an accepted history has to have so many calls
 abbrev pub IsJunit : List ℕ → ℕ → Outcome → List ℕ → Type 0
-IsJunit name least (Accepted trace) text = text ≡ accepted_junit name least (length trace.history)
+IsJunit name least (Accepted acceptance) text = text ≡ accepted_junit name least acceptance.recorded
 IsJunit name least (Rejected rejection) text = IsFailed name rejection text
 IsJunit name least (Undecided hits) text = text ≡ undecided_junit name hits
 IsJunit name least (BadLine bad) text = text ≡ erred_text name (bad_line_text bad)

@@ -4,6 +4,8 @@ use Rattle.trace_file.specs.declared.act.Act.{Act}
 use Rattle.trace_file.specs.declared.act.Act.TheVariants as acts
 use Rattle.trace_file.specs.declared.call.Call.{Call}
 use Rattle.figures.specs.Figures.{Row, number, row}
+use Rattle.judge_run.specs.declared.extent.Extent.{Extent}
+use Rattle.judge_run.specs.Extents.{recorded_of}
 use Rattle.judge_run.specs.declared.kinds.CountedKind.{CountedKind}
 use Rattle.judge_run.specs.declared.kinds.CountedKind.TheVariants.{Put, Removal, Hit, Miss}
 
@@ -34,10 +36,10 @@ is_of kind call = is_act_of kind call.act
 abbrev pub calls_of : CountedKind → List Call → ℕ
 calls_of kind calls = count_by (is_of kind) calls
 
--- how many calls of each kind there are
-abbrev pub kind_rows : List Call → List Row
-kind_rows calls =
-    row (codes "puts") (number (calls_of Put calls))
+-- how many calls of each kind were recorded
+abbrev pub kind_rows : Extent → List Call → List Row
+kind_rows extent calls =
+    row (codes "puts") (number (recorded_of extent (calls_of Put calls)))
     ∷ row (codes "removals") (number (calls_of Removal calls))
     ∷ row (codes "hits") (number (calls_of Hit calls))
     ∷ row (codes "misses") (number (calls_of Miss calls))

@@ -6,10 +6,13 @@ pub mod TraceTold
 pub mod Showing
 pub mod Inputs
 pub mod Scopes
+pub mod Extents
+pub mod FromStart
 pub mod Kinds
 pub mod Ends
 pub mod Runs
 pub mod Telling
+pub mod VerdictText
 pub mod FoundRows
 pub mod ReasonRows
 pub mod Listing

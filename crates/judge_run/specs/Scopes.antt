@@ -1,15 +1,33 @@
 -- What of a text is judged.
-use Rattle.std.specs.Prelude.{ℕ, List, Result, map}
-use Rattle.std.specs.Result.{result_map_both}
+use Rattle.std.specs.Prelude.{◌≡◌, ℕ, Bool, true, false, List, ◌++◌, length, map, Option, Some, None, IfSome, Ok}
+use Rattle.certificate_finder.specs.declared.warmed.Warmed.{Warmed}
+use Rattle.certificate_finder.specs.Warming.{IsWarmed}
 use Rattle.clock_skew.specs.Widening.{widened}
-use Rattle.history_text.specs.declared.bad_line.BadLine.{BadLine}
 use Rattle.history_text.specs.Text.{Text, text_by, text_of}
+use Rattle.judge_run.specs.declared.extent.Extent.{Extent}
 use Rattle.judge_run.specs.declared.scope.Scope.{Scope}
+use Rattle.judge_run.specs.Telling.{lines_at}
 
--- the text as it is judged: with each call widened by the skew of the stamps
+-- the calls of a text as they are judged: each widened by the skew of the stamps
 abbrev pub text_scoped : Scope → Text → Text
 text_scoped scope text = text_by (map (widened scope.skew) text.calls) text.lines text.callers
 
--- the text that is judged of these bytes, or their first bad line
-abbrev pub judged_of : Scope → List ℕ → Result Text BadLine
-judged_of scope bytes = result_map_both (text_scoped scope) (λ bad. bad) (text_of bytes)
+-- the text is warmed: after its calls stand puts of all values that are taken as there from the start, so many. Each has the line of the hit that reads its value first
+pub record IsWarmedText (text judged : Text) (added : Option ℕ) : Type 0 where
+  pub warm : Warmed
+  pub is : IsWarmed text.calls warm
+  pub calls_are : judged.calls ≡ warm.history
+  pub lines_are : judged.lines ≡ text.lines ++ lines_at text.lines warm.hits.items
+  pub callers_are : judged.callers ≡ text.callers
+  pub added_is : added ≡ Some (length warm.hits.items)
+
+-- the text is warmed, if that is wanted
+abbrev pub IsWarmedIf : Bool → Text → Text → Option ℕ → Type 0
+IsWarmedIf true text judged added = IsWarmedText text judged added
+IsWarmedIf false text judged added = (judged ≡ text) × (added ≡ None)
+
+-- the bytes, if they are known, spell a text that is judged so in a scope
+pub record IsJudged (scope : Scope) (known : Option (List ℕ)) (judged : Text) (extent : Extent) : Type 0 where
+  pub spelled : Text
+  pub read : IfSome known (λ bytes. text_of bytes ≡ Ok spelled)
+  pub warmed : IsWarmedIf scope.warm (text_scoped scope spelled) judged extent.from_start

@@ -1,16 +1,12 @@
--- The line that tells what was found for the history of a text.
-use Rattle.std.specs.Prelude.{ℕ, ◌==◌, nat_lt, List, [], ◌∷◌, ◌++◌, length, if◌then◌else◌, codes, fold, take, slice_get, option_map, unwrap_or, filter_map}
+-- The calls that a reason speaks of, and what is said of them.
+use Rattle.std.specs.Prelude.{ℕ, ◌==◌, nat_lt, List, [], ◌∷◌, ◌++◌, if◌then◌else◌, codes, fold, take, slice_get, option_map, unwrap_or, filter_map}
 use Rattle.std.specs.Fmt.{decimal}
 use Rattle.std.specs.List.{flat_map}
 use Rattle.trace_file.specs.declared.call.Call.{Call}
-use Rattle.certificate_checker.specs.declared.verdict.Verdict.TheVariants as verdicts
-use Rattle.certificate_checker.specs.VerdictLine.{verdict_line}
 use Rattle.certificate_finder.specs.declared.excluded.Excluded.{Excluded}
 use Rattle.certificate_finder.specs.declared.excluded.Excuse.{Excuse}
 use Rattle.certificate_finder.specs.declared.excluded.Excuse.TheVariants.{Later, Expired, Replaced}
 use Rattle.certificate_finder.specs.declared.faults.CrossedWrites.{CrossedWrites}
-use Rattle.certificate_finder.specs.declared.found.Found.{Found}
-use Rattle.certificate_finder.specs.declared.found.Found.TheVariants.{Accepted, Rejected, Undecided}
 use Rattle.certificate_finder.specs.declared.witness.Side.{Side}
 use Rattle.certificate_finder.specs.declared.witness.Witness.{Witness}
 use Rattle.certificate_finder.specs.declared.witness.Witness.TheVariants.{Interval, Hit, Crossed, Unread}
@@ -80,9 +76,3 @@ spaced numbers = flat_map (λ n. codes " " ++ decimal n) numbers
 abbrev pub reason_text : List Call → List ℕ → Witness → List ℕ
 reason_text calls lines witness =
     witness_word witness ++ (codes " key " ++ (word_of (key_at calls (first_position witness)) ++ (codes " lines" ++ spaced (ascending (lines_at lines (witness_positions witness))))))
-
--- what is said of calls, which stand on these lines, with the line feed
-abbrev pub verdict_text : List Call → List ℕ → Found → List ℕ
-verdict_text calls lines (Accepted certificate) = verdict_line verdicts.Accepted (length calls) ++ codes "\n"
-verdict_text calls lines (Rejected witness) = codes "rejected " ++ (reason_text calls lines witness ++ codes "\n")
-verdict_text calls lines (Undecided hits) = codes "undecided " ++ decimal (length hits.items) ++ codes " hits\n"

@@ -29,7 +29,7 @@ use Rattle.judge_run.specs.TraceRows.{AreRowsOn, bad_trace_rows, check_rows}
 
 -- what a trace is judged to be
 abbrev pub judged_of : Outcome → Judged
-judged_of (Accepted trace) = kinds.Accepted
+judged_of (Accepted acceptance) = kinds.Accepted
 judged_of (Rejected rejection) = kinds.Rejected
 judged_of (Undecided hits) = kinds.BadTrace
 judged_of (BadLine bad) = kinds.BadTrace
@@ -40,6 +40,7 @@ pub record IsRejectionOf (trace : Trace) (fault : Fault) (rejection : Rejection)
   pub history_is : rejection.history ≡ trace.history
   pub lines_are : rejection.lines.items ≡ []
   pub callers_are : rejection.callers.items ≡ []
+  pub from_start : rejection.from_start.items ≡ []
   pub reason_is : IsReasonOf trace.history trace.certificate fault rejection.reason
 
 -- the answer to a trace of this many calls with this verdict, begun
@@ -59,8 +60,8 @@ pub record RejectedTold (form : Form) (trace : Trace) (explain : Bool) (rejectio
 
 -- the report on a trace, by the outcome of judging it
 abbrev pub IsPairTold : Form → Trace → Bool → Outcome → List ℕ → Type 0
-IsPairTold form trace explain (Accepted pair) told =
-    (pair ≡ trace) × IsAccepted trace.history trace.certificate × (told ≡ ended form (verdict_begun form verdicts.Accepted (length trace.history)))
+IsPairTold form trace explain (Accepted acceptance) told =
+    (acceptance.trace ≡ trace) × (acceptance.recorded ≡ length trace.history) × IsAccepted trace.history trace.certificate × (told ≡ ended form (verdict_begun form verdicts.Accepted (length trace.history)))
 IsPairTold form trace explain (Rejected rejection) told = RejectedTold form trace explain rejection told
 IsPairTold form trace explain (Undecided hits) told = ⊥
 IsPairTold form trace explain (BadLine bad) told = ⊥
@@ -94,7 +95,7 @@ pub record BadTold (form : Form) (known left : Option (List ℕ)) (fault : Trace
 
 -- the report on the bytes of a reader, by the outcome of judging them
 abbrev pub IsTraceTold : Form → Option (List ℕ) → Option (List ℕ) → Bool → Outcome → List ℕ → Type 0
-IsTraceTold form known left explain (Accepted pair) told = ReadTold form known left explain (Accepted pair) told × VerdictTold form known left kinds.Accepted told
+IsTraceTold form known left explain (Accepted acceptance) told = ReadTold form known left explain (Accepted acceptance) told × VerdictTold form known left kinds.Accepted told
 IsTraceTold form known left explain (Rejected rejection) told = ReadTold form known left explain (Rejected rejection) told × VerdictTold form known left kinds.Rejected told
 IsTraceTold form known left explain (Undecided hits) told = ⊥
 IsTraceTold form known left explain (BadLine bad) told = ⊥

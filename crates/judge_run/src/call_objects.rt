@@ -1,8 +1,8 @@
 // The objects of the calls that a reason speaks of.
-ghost use Rattle.std.specs.Prelude.{◌≡◌, IfOk, OnOk, map, slice_get, string_bytes};
+ghost use Rattle.std.specs.Prelude.{◌≡◌, IfOk, OnOk, map, nat_lt, slice_get, string_bytes};
 ghost use Rattle.trace_file.specs.Lent.{act_shown, call_shown};
 ghost use Rattle.figures.specs.Figures.{with_rows};
-ghost use Rattle.judge_run.specs.CallObjects.{act_rows, act_word, call_object, call_rows, call_rows_of, line_rows, told_positions, value_rows, with_calls};
+ghost use Rattle.judge_run.specs.CallObjects.{act_rows, act_word, call_object, call_rows, call_rows_of, line_name, line_rows, told_positions, value_rows, with_calls};
 
 use crate::objects::tell_objects;
 use crate::told_lines::told_positions;
@@ -92,34 +92,50 @@ fn tell_call_at(
     }
 }
 
+/// What the line of a call tells: where it was recorded, or where a value that was there from the start was read first.
+fn line_name(is_recorded: bool) -> &'static str
+    ensures { result.now ≡ line_name is_recorded }
+{
+    if is_recorded {
+        "line"
+    } else {
+        "from-start-line"
+    }
+}
+
 /// Tells the line of the call at a position, if there is one.
 fn tell_line_at(
     alloc: Global,
     form: Form,
     text: &mut String,
     lines: &[u32],
+    recorded: usize,
     position: u32,
 ) -> Result<(), AllocError>
     ensures { OnOk result (string_bytes text.new
-        ≡ with_rows form (string_bytes text.old) (line_rows (slice_get lines.now position))) }
+        ≡ with_rows form (string_bytes text.old)
+        (line_rows (nat_lt position recorded) (slice_get lines.now position))) }
 {
+    let name = line_name((position as usize) < recorded);
     match lines.get(position as usize) {
-        Some(line) => form.tell(alloc, text, "line", Figure::Count(u64::from(*line))),
+        Some(line) => form.tell(alloc, text, name, Figure::Count(u64::from(*line))),
         None => Ok(()),
     }
 }
 
-/// The object of the call at a position.
+/// The object of the call at a position, if so many calls were recorded.
 fn call_object(
     alloc: Global,
     history: &History,
     lines: &[u32],
+    recorded: usize,
     position: u32,
 ) -> Result<String, AllocError>
-    ensures { IfOk result (λ text. string_bytes text ≡ call_object history.now lines.now position) }
+    ensures { IfOk result (λ text. string_bytes text
+        ≡ call_object history.now lines.now recorded position) }
 {
     let mut text = String::new(alloc);
-    tell_line_at(alloc, Form::Json, &mut text, lines, position)?;
+    tell_line_at(alloc, Form::Json, &mut text, lines, recorded, position)?;
     tell_call_at(alloc, Form::Json, &mut text, history, position)?;
     text.push_str("}")?;
     Ok(text)
@@ -130,14 +146,15 @@ fn call_objects(
     alloc: Global,
     history: &History,
     lines: &[u32],
+    recorded: usize,
     positions: &[u32],
 ) -> Result<Vec<String>, AllocError>
     ensures { IfOk result (λ objects. map string_bytes objects.items
-        ≡ map (call_object history.now lines.now) positions.now) }
+        ≡ map (call_object history.now lines.now recorded) positions.now) }
 {
     let mut objects = Vec::new(alloc);
     for position in positions {
-        let object = call_object(alloc, history, lines, *position)?;
+        let object = call_object(alloc, history, lines, recorded, *position)?;
         let Ok(()) = objects.push(object) else {
             return Err(AllocError);
         };
@@ -151,35 +168,37 @@ fn tell_calls(
     text: &mut String,
     history: &History,
     lines: &[u32],
+    recorded: usize,
     witness: &Witness,
 ) -> Result<(), AllocError>
     ensures { OnOk result (string_bytes text.new
-        ≡ with_calls Form.Json history.now lines.now witness.now (string_bytes text.old)) }
+        ≡ with_calls Form.Json history.now lines.now recorded witness.now (string_bytes text.old)) }
 {
     let positions = told_positions(alloc, witness)?;
-    let objects = call_objects(alloc, history, lines, &positions)?;
+    let objects = call_objects(alloc, history, lines, recorded, &positions)?;
     match tell_objects(text, "calls-of-fault", &objects) {
         Ok(()) => Ok(()),
         Err(refused) => Err(refused),
     }
 }
 
-/// The answer that was begun with a reason, with the objects of its calls, if it is an object.
+/// The answer that was begun with a reason, with the objects of its calls, if it is an object. So many calls were recorded.
 pub(crate) fn with_calls(
     alloc: Global,
     form: Form,
     begun: String,
     history: &History,
     lines: &[u32],
+    recorded: usize,
     witness: &Witness,
 ) -> Result<String, AllocError>
     ensures { IfOk result (λ text. string_bytes text
-        ≡ with_calls form history.now lines.now witness.now (string_bytes begun)) }
+        ≡ with_calls form history.now lines.now recorded witness.now (string_bytes begun)) }
 {
     let mut text = begun;
     match form {
         Form::Lines => Ok(text),
-        Form::Json => match tell_calls(alloc, &mut text, history, lines, witness) {
+        Form::Json => match tell_calls(alloc, &mut text, history, lines, recorded, witness) {
             Ok(()) => Ok(text),
             Err(refused) => Err(refused),
         },

@@ -2,6 +2,7 @@
 ghost use Rattle.std.specs.Prelude.{◌≡◌, ◌≢◌, IfOk, IfErr, string_bytes};
 ghost use Rattle.judge_run.specs.TraceTold.{IsPairTold, IsRejectionOf, IsTraceTold, IsTraceUntold, ToldTrace, bad_trace_answer};
 
+use crate::acceptance::Acceptance;
 use crate::answers::ended;
 use crate::judge_report::JudgeReport;
 use crate::outcome::Outcome;
@@ -80,7 +81,8 @@ fn told_pair<S: BuildHasher + Drop>(
     match verdict {
         Verdict::Accepted => {
             let text = ended(form, text)?;
-            let outcome = Outcome::Accepted(trace);
+            let recorded = trace.history.len();
+            let outcome = Outcome::Accepted(Acceptance { trace, recorded });
             Ok(JudgeReport { text, outcome })
         }
         Verdict::Rejected(fault) => {
@@ -101,6 +103,7 @@ fn rejection_of(alloc: Global, trace: Trace, fault: Fault) -> Rejection
         history: trace.history,
         lines: Vec::new(alloc),
         callers: Vec::new(alloc),
+        from_start: Vec::new(alloc),
         reason,
     }
 }

@@ -3,6 +3,7 @@ ghost use Rattle.std.specs.Prelude.{◌≡◌, ◌++◌, IfOk, OnOk, string_byte
 ghost use Rattle.std.specs.List.{flat_map};
 ghost use Rattle.judge_run.specs.FaultsTold.{fault_text, late_text};
 
+use crate::from_start::{start_lines, start_text};
 use crate::lateness::late_of;
 use crate::reason_text::reason_text;
 use certificate_finder::Witness;
@@ -19,18 +20,22 @@ fn late_text(alloc: Global, late: Option<u64>) -> Result<String, AllocError>
     }
 }
 
-/// The line of a fault, with its line feed.
+/// The line of a fault of a history of which so many calls were recorded, with its line feed.
 fn fault_text(
     alloc: Global,
     history: &History,
     lines: &[u32],
+    recorded: usize,
     fault: &Witness,
 ) -> Result<String, AllocError>
-    ensures { IfOk result (λ text. string_bytes text ≡ fault_text history.now lines.now fault.now) }
+    ensures { IfOk result (λ text. string_bytes text
+        ≡ fault_text history.now lines.now recorded fault.now) }
 {
     let reason = reason_text(alloc, history, lines, fault)?;
     let late = late_text(alloc, late_of(history, fault))?;
-    format!(in alloc; "fault {reason}{late}\n")
+    let start = start_lines(alloc, lines, recorded, fault)?;
+    let start = start_text(alloc, &start)?;
+    format!(in alloc; "fault {reason}{late}{start}\n")
 }
 
 /// Appends a line for each fault.
@@ -39,13 +44,14 @@ pub(crate) fn push_faults(
     text: &mut String,
     history: &History,
     lines: &[u32],
+    recorded: usize,
     faults: &[Witness],
 ) -> Result<(), AllocError>
     ensures { OnOk result (string_bytes text.new
-        ≡ string_bytes text.old ++ flat_map (fault_text history.now lines.now) faults.now) }
+        ≡ string_bytes text.old ++ flat_map (fault_text history.now lines.now recorded) faults.now) }
 {
     for fault in faults {
-        let line = fault_text(alloc, history, lines, fault)?;
+        let line = fault_text(alloc, history, lines, recorded, fault)?;
         text.push_str(line.as_str())?;
     }
     Ok(())

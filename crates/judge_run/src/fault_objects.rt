@@ -35,12 +35,13 @@ fn tell_fault(
     text: &mut String,
     history: &History,
     lines: &[u32],
+    recorded: usize,
     fault: &Witness,
 ) -> Result<(), AllocError>
     ensures { OnOk result (string_bytes text.new
-        ≡ with_rows form (string_bytes text.old) (fault_rows history.now lines.now fault.now)) }
+        ≡ with_rows form (string_bytes text.old) (fault_rows history.now lines.now recorded fault.now)) }
 {
-    tell_reason(alloc, form, text, history, lines, fault)?;
+    tell_reason(alloc, form, text, history, lines, recorded, fault)?;
     match tell_late(alloc, form, text, late_of(history, fault)) {
         Ok(()) => Ok(()),
         Err(refused) => Err(refused),
@@ -52,12 +53,22 @@ fn fault_object(
     alloc: Global,
     history: &History,
     lines: &[u32],
+    recorded: usize,
     fault: &Witness,
 ) -> Result<String, AllocError>
-    ensures { IfOk result (λ text. string_bytes text ≡ fault_object history.now lines.now fault.now) }
+    ensures { IfOk result (λ text. string_bytes text
+        ≡ fault_object history.now lines.now recorded fault.now) }
 {
     let mut text = String::new(alloc);
-    tell_fault(alloc, Form::Json, &mut text, history, lines, fault)?;
+    tell_fault(
+        alloc,
+        Form::Json,
+        &mut text,
+        history,
+        lines,
+        recorded,
+        fault,
+    )?;
     text.push_str("}")?;
     Ok(text)
 }
@@ -67,14 +78,15 @@ fn fault_objects(
     alloc: Global,
     history: &History,
     lines: &[u32],
+    recorded: usize,
     faults: &[Witness],
 ) -> Result<Vec<String>, AllocError>
     ensures { IfOk result (λ objects. map string_bytes objects.items
-        ≡ map (fault_object history.now lines.now) faults.now) }
+        ≡ map (fault_object history.now lines.now recorded) faults.now) }
 {
     let mut objects = Vec::new(alloc);
     for fault in faults {
-        let object = fault_object(alloc, history, lines, fault)?;
+        let object = fault_object(alloc, history, lines, recorded, fault)?;
         let Ok(()) = objects.push(object) else {
             return Err(AllocError);
         };
@@ -88,12 +100,13 @@ pub(crate) fn tell_faults(
     text: &mut String,
     history: &History,
     lines: &[u32],
+    recorded: usize,
     faults: &[Witness],
 ) -> Result<(), AllocError>
     ensures { OnOk result (string_bytes text.new
-        ≡ with_faults Form.Json history.now lines.now faults.now (string_bytes text.old)) }
+        ≡ with_faults Form.Json history.now lines.now recorded faults.now (string_bytes text.old)) }
 {
-    let objects = fault_objects(alloc, history, lines, faults)?;
+    let objects = fault_objects(alloc, history, lines, recorded, faults)?;
     match tell_objects(text, "faults", &objects) {
         Ok(()) => Ok(()),
         Err(refused) => Err(refused),

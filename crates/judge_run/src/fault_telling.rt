@@ -17,34 +17,36 @@ fn tell_all(
     text: &mut String,
     history: &History,
     lines: &[u32],
+    recorded: usize,
     faults: &[Witness],
 ) -> Result<(), AllocError>
     ensures { OnOk result (string_bytes text.new
-        ≡ with_faults form history.now lines.now faults.now (string_bytes text.old)) }
+        ≡ with_faults form history.now lines.now recorded faults.now (string_bytes text.old)) }
 {
     match form {
-        Form::Lines => match push_faults(alloc, text, history, lines, faults) {
+        Form::Lines => match push_faults(alloc, text, history, lines, recorded, faults) {
             Ok(()) => Ok(()),
             Err(refused) => Err(refused),
         },
-        Form::Json => match tell_faults(alloc, text, history, lines, faults) {
+        Form::Json => match tell_faults(alloc, text, history, lines, recorded, faults) {
             Ok(()) => Ok(()),
             Err(refused) => Err(refused),
         },
     }
 }
 
-/// The answer that was begun, and all faults after it, if that is wanted.
+/// The answer that was begun, and all faults after it, if that is wanted. So many calls were recorded.
 pub(crate) fn listed(
     alloc: Global,
     form: Form,
     wanted: bool,
     begun: String,
     rejection: &Rejection,
+    recorded: usize,
     faults: &[Witness],
 ) -> Result<String, AllocError>
     ensures { IfOk result (λ text. string_bytes text
-        ≡ listed form wanted rejection.now.history rejection.now.lines.items faults.now
+        ≡ listed form wanted rejection.now.history rejection.now.lines.items recorded faults.now
         (string_bytes begun)) }
 {
     if !wanted {
@@ -52,7 +54,15 @@ pub(crate) fn listed(
     }
     let mut text = begun;
     let history = &rejection.history;
-    match tell_all(alloc, form, &mut text, history, &rejection.lines, faults) {
+    match tell_all(
+        alloc,
+        form,
+        &mut text,
+        history,
+        &rejection.lines,
+        recorded,
+        faults,
+    ) {
         Ok(()) => Ok(text),
         Err(refused) => Err(refused),
     }

@@ -42,8 +42,8 @@ impl JudgeEnd {
         ensures { result ≡ end_at_least least outcome.now }
     {
         match outcome {
-            Outcome::Accepted(trace) => {
-                if trace.history.len() < least {
+            Outcome::Accepted(acceptance) => {
+                if acceptance.recorded < least {
                     JudgeEnd::TooFew
                 } else {
                     JudgeEnd::Done

@@ -1,16 +1,19 @@
 // Judging the history that a text spells.
-ghost use Rattle.std.specs.Prelude.{◌≡◌, ◌≢◌, Ok, IfOk, IfErr, IfSome, OnOk, length};
+ghost use Rattle.std.specs.Prelude.{◌≡◌, ◌≢◌, IfOk, IfErr, IfSome, OnOk, length};
 ghost use Rattle.std.specs.Io.KnownBytes.{IsAtEnd};
 ghost use Rattle.history_text.specs.Outcome.{IsFaultOf, Left};
 ghost use Rattle.history_text.specs.Text.{text_by};
-ghost use Rattle.judge_run.specs.Scopes.{judged_of};
+ghost use Rattle.judge_run.specs.Scopes.{IsJudged};
 ghost use Rattle.certificate_finder.specs.Finding.{IfRejected, IsFound};
 ghost use Rattle.judge_run.specs.Listing.{IsListed};
 
+use crate::extent::Extent;
 use crate::judged_text::JudgedText;
 use crate::listing::faults_of;
 use crate::scope::Scope;
 use crate::scoping::scoped;
+use crate::warmed_text::WarmedText;
+use crate::warming::warmed_if;
 use certificate_finder::find_with_hasher;
 use history_text::{ReadTextFault, read_text};
 use std::alloc::Global;
@@ -28,9 +31,8 @@ pub fn judge_text<S: BuildHasher + Copy + Drop, R: Read>(
     scope: Scope,
     reader: &mut R,
 ) -> Result<JudgedText<S>, ReadTextFault>
-    ensures text { IfOk result (λ judged. IfSome (R.remaining reader.old) (λ bytes.
-        judged_of scope bytes
-        ≡ Ok (text_by judged.text.history judged.text.lines.items judged.text.callers))) }
+    ensures text { IfOk result (λ judged. IsJudged scope (R.remaining reader.old)
+        (text_by judged.text.history judged.text.lines.items judged.text.callers) judged.extent) }
     ensures found { IfOk result (λ judged. IsFound judged.text.history judged.found) }
     ensures faults { IfOk result (λ judged. IfRejected judged.found
         (λ _. IsListed judged.text.history judged.faults)) }
@@ -49,6 +51,10 @@ pub fn judge_text<S: BuildHasher + Copy + Drop, R: Read>(
     let Ok(text) = scoped(alloc, text, scope) else {
         return Err(ReadTextFault::OutOfMemory);
     };
+    let Ok(warm) = warmed_if(alloc, hash_builder, text, scope.warm) else {
+        return Err(ReadTextFault::OutOfMemory);
+    };
+    let WarmedText { text, from_start } = warm;
     let Ok(found) = find_with_hasher(alloc, hash_builder, &text.history) else {
         return Err(ReadTextFault::OutOfMemory);
     };
@@ -57,6 +63,7 @@ pub fn judge_text<S: BuildHasher + Copy + Drop, R: Read>(
     };
     Ok(JudgedText {
         text,
+        extent: Extent { from_start },
         found,
         faults,
     })

@@ -4,13 +4,17 @@ ghost use Rattle.certificate_finder.specs.Finding.{IfRejected, IsFound};
 ghost use Rattle.certificate_finder.specs.Witnesses.{IsWitness};
 ghost use Rattle.history_text.specs.Text.{text_by};
 ghost use Rattle.judge_run.specs.Listing.{IsListed};
-ghost use Rattle.judge_run.specs.TextTold.{IsHistoryTold, IsTextTold, IsTextUntold, ToldText, bad_answer, rejected_begun};
+ghost use Rattle.judge_run.specs.TextTold.{IsHistoryTold, IsTextTold, IsTextUntold, ToldText, acceptance_of, bad_answer, rejected_begun};
 
+use crate::acceptance::Acceptance;
 use crate::answers::ended;
 use crate::call_objects::with_calls;
 use crate::detail::Detail;
+use crate::extent::Extent;
+use crate::extents::recorded_of;
 use crate::fault_list::FaultList;
 use crate::fault_telling::{listed, more_text};
+use crate::from_start::start_lines;
 use crate::judge_report::JudgeReport;
 use crate::judged_text::JudgedText;
 use crate::judging_text::judge_text;
@@ -27,7 +31,7 @@ use history_text::{BadLine, ReadTextFault, TextHistory};
 use std::alloc::{AllocError, Global};
 use std::hash::BuildHasher;
 use std::io::{Read, Write};
-use trace_file::{Trace, Unwritten, write_whole};
+use trace_file::{Certificate, History, Trace, Unwritten, write_whole};
 
 /// Judges the history that a text spells in this scope, and tells its verdict in this form. If the history is rejected and that is wanted, it
 /// tells all its faults after the verdict, and then why it is rejected. It flushes nothing. The tables hash by `hash_builder`. Whoever wrote the text should not know its seed.
@@ -95,26 +99,23 @@ fn told_judged<S: BuildHasher + Drop>(
     requires faults { IfRejected judged.found (λ _. IsListed judged.text.history judged.faults) }
     ensures { IfOk result (λ told. IsHistoryTold form
         (text_by judged.text.history judged.text.lines.items judged.text.callers)
-        detail told.outcome (string_bytes told.text)) }
+        judged.extent detail told.outcome (string_bytes told.text)) }
 {
     let text = found_begun(alloc, form, &judged)?;
     let JudgedText {
         text: history,
+        extent,
         found,
         faults,
     } = judged;
     match found {
         Found::Accepted(certificate) => {
             let text = ended(form, text)?;
-            let history = history.history;
-            let outcome = Outcome::Accepted(Trace {
-                history,
-                certificate,
-            });
+            let outcome = accepted_of(&extent, history.history, certificate);
             Ok(JudgeReport { text, outcome })
         }
         Found::Rejected(witness) => match told_rejected(
-            alloc, form, text, history, witness, &faults, detail,
+            alloc, form, text, history, &extent, witness, &faults, detail,
         ) {
             Ok(told) => Ok(told),
             Err(refused) => Err(refused),
@@ -127,12 +128,25 @@ fn told_judged<S: BuildHasher + Drop>(
     }
 }
 
+/// The outcome of a history that is accepted with this certificate.
+fn accepted_of(extent: &Extent, history: History, certificate: Certificate) -> Outcome
+    ensures { result ≡ Outcome.Accepted (acceptance_of extent.now history certificate) }
+{
+    let recorded = recorded_of(extent, history.len());
+    let trace = Trace {
+        history,
+        certificate,
+    };
+    Outcome::Accepted(Acceptance { trace, recorded })
+}
+
 /// The report on a history that is rejected, after the answer that was begun with its verdict.
 fn told_rejected<S: BuildHasher + Drop>(
     alloc: Global,
     form: Form,
     begun: String,
     text: TextHistory<S>,
+    extent: &Extent,
     witness: Witness,
     list: &FaultList,
     detail: Detail,
@@ -140,13 +154,23 @@ fn told_rejected<S: BuildHasher + Drop>(
     requires witness { IsWitness text.history witness }
     requires list { IsListed text.history list.now }
     requires begun { string_bytes begun
-        ≡ rejected_begun form (text_by text.history text.lines.items text.callers) witness
+        ≡ rejected_begun form (text_by text.history text.lines.items text.callers) extent.now witness
         list.now.faults.items }
     ensures { IfOk result (λ told. IsHistoryTold form
         (text_by text.history text.lines.items text.callers)
-        detail told.outcome (string_bytes told.text)) }
+        extent.now detail told.outcome (string_bytes told.text)) }
 {
-    let begun = with_calls(alloc, form, begun, &text.history, &text.lines, &witness)?;
+    let recorded = recorded_of(extent, text.history.len());
+    let begun = with_calls(
+        alloc,
+        form,
+        begun,
+        &text.history,
+        &text.lines,
+        recorded,
+        &witness,
+    )?;
+    let from_start = start_lines(alloc, &text.lines, recorded, &witness)?;
     let TextHistory {
         history,
         lines,
@@ -156,9 +180,18 @@ fn told_rejected<S: BuildHasher + Drop>(
         history,
         lines,
         callers: copy_names(alloc, callers.names())?,
+        from_start,
         reason: Reason::of_witness(witness),
     };
-    let begun = listed(alloc, form, detail.all, begun, &rejection, &list.faults)?;
+    let begun = listed(
+        alloc,
+        form,
+        detail.all,
+        begun,
+        &rejection,
+        recorded,
+        &list.faults,
+    )?;
     let more = more_text(alloc, list.faults.len(), list.keys)?;
     let text = rejection.told_behind(alloc, form, begun, detail.explain, more.as_str())?;
     let outcome = Outcome::Rejected(rejection);

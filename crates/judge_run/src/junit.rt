@@ -5,7 +5,6 @@ ghost use Rattle.judge_run.specs.Junit.{IsFailed, IsJunit, accepted_junit, erred
 use crate::outcome::Outcome;
 use crate::rejection::Rejection;
 use crate::xml::{push_bytes, push_xml};
-use history_picture::explanation;
 use std::alloc::{AllocError, Global};
 
 /// What a file of one test begins with.
@@ -104,7 +103,7 @@ fn of_undecided(alloc: Global, name: &str, hits: usize) -> Result<Vec<u8>, Alloc
 fn of_rejected(alloc: Global, name: &str, rejection: &Rejection) -> Result<Vec<u8>, AllocError>
     ensures { IfOk result (λ text. IsFailed name.now rejection.now text.items) }
 {
-    let why = explanation(alloc, &rejection.scene(), &rejection.reason)?;
+    let why = rejection.why(alloc)?;
     match failed(alloc, name, why.as_str()) {
         Ok(text) => Ok(text),
         Err(refused) => Err(refused),
@@ -123,7 +122,7 @@ pub fn junit_text(
     ensures { IfOk result (λ text. IsJunit name.now least outcome.now text.items) }
 {
     match outcome {
-        Outcome::Accepted(trace) => of_accepted(alloc, name, least, trace.history.len()),
+        Outcome::Accepted(acceptance) => of_accepted(alloc, name, least, acceptance.recorded),
         Outcome::Rejected(rejection) => of_rejected(alloc, name, rejection),
         Outcome::Undecided(hits) => of_undecided(alloc, name, *hits),
         Outcome::BadLine(bad) => {

@@ -4,6 +4,8 @@ ghost use Rattle.trace_file.specs.Lent.{call_shown};
 ghost use Rattle.figures.specs.Figures.{with_rows};
 ghost use Rattle.judge_run.specs.Kinds.{calls_of, is_of, kind_rows};
 
+use crate::extent::Extent;
+use crate::extents::recorded_of;
 use figures::{Figure, Form};
 use std::alloc::{AllocError, Global};
 use trace_file::{ActRef, CallRef, History};
@@ -42,17 +44,18 @@ fn calls_of(history: &History, kind: CountedKind) -> usize
     calls
 }
 
-/// Tells how many calls of each kind a history has.
+/// Tells how many calls of each kind of a history were recorded.
 pub(crate) fn tell_kinds(
     alloc: Global,
     form: Form,
     text: &mut String,
+    extent: &Extent,
     history: &History,
 ) -> Result<(), AllocError>
     ensures { OnOk result (string_bytes text.new
-        ≡ with_rows form (string_bytes text.old) (kind_rows history.now)) }
+        ≡ with_rows form (string_bytes text.old) (kind_rows extent.now history.now)) }
 {
-    let puts = calls_of(history, CountedKind::Put);
+    let puts = recorded_of(extent, calls_of(history, CountedKind::Put));
     let removals = calls_of(history, CountedKind::Removal);
     let hits = calls_of(history, CountedKind::Hit);
     let misses = calls_of(history, CountedKind::Miss);

@@ -1,16 +1,20 @@
 //! What `judge`, `check` and `show` do: histories and traces judged, explained, drawn and written as text.
 #![tactic(auto)]
 
+mod acceptance;
 mod answers;
 mod call_objects;
 mod checking;
 mod detail;
+mod extent;
+mod extents;
 mod fault_key;
 mod fault_keys;
 mod fault_lines;
 mod fault_list;
 mod fault_objects;
 mod fault_telling;
+mod from_start;
 mod inputs;
 mod judge_end;
 mod judge_report;
@@ -43,10 +47,14 @@ mod text_answers;
 mod told_lines;
 mod trace_answers;
 mod wanted_files;
+mod warmed_text;
+mod warming;
 mod xml;
 
+pub use acceptance::Acceptance;
 pub use checking::answer_check;
 pub use detail::Detail;
+pub use extent::Extent;
 pub use fault_list::FaultList;
 pub use judge_end::JudgeEnd;
 pub use judged_text::JudgedText;

@@ -9,7 +9,7 @@ use trace_file::TraceFault;
 /// is dropped, here and below.
 pub(crate) fn note_answer<E: Write>(err: &mut E, name: &str, outcome: &Outcome) {
     match outcome {
-        Outcome::Accepted(trace) => note_calls(err, name, trace.history.len()),
+        Outcome::Accepted(acceptance) => note_calls(err, name, acceptance.recorded),
         Outcome::Rejected(_) => {}
         Outcome::Undecided(hits) => note_undecided(err, name, *hits),
         Outcome::BadLine(bad) => note_bad_line(err, name, *bad),
@@ -27,8 +27,8 @@ fn note_calls<E: Write>(err: &mut E, name: &str, calls: usize) {
 
 /// Tells that an accepted history has fewer calls than it has to have.
 pub(crate) fn note_few<E: Write>(err: &mut E, name: &str, outcome: &Outcome, least: usize) {
-    if let Outcome::Accepted(trace) = outcome {
-        let calls = trace.history.len();
+    if let Outcome::Accepted(acceptance) = outcome {
+        let calls = acceptance.recorded;
         if calls < least {
             let _ = write!(
                 err,

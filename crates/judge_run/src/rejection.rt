@@ -1,11 +1,10 @@
 // A history that is rejected, and why.
 ghost use Rattle.std.specs.Prelude.{◌≡◌, ◌++◌, IfOk, OnOk, string_bytes};
-ghost use Rattle.history_picture.specs.Names.{names_of};
-ghost use Rattle.history_picture.specs.Shown.{IsExplanation};
 ghost use Rattle.judge_run.specs.Answers.{with_why};
-ghost use Rattle.judge_run.specs.Told.{IsBehind};
+ghost use Rattle.judge_run.specs.Told.{IsBehind, IsWhy};
 
 use crate::answers::ended;
+use crate::from_start::start_why;
 use figures::{Figure, Form};
 use history_picture::{Reason, Scene, explanation};
 use std::alloc::{AllocError, Global};
@@ -20,6 +19,8 @@ pub struct Rejection {
     pub lines: Vec<u32>,
     /// The callers' names, by their numbers; none if the history came as a trace.
     pub callers: Vec<Vec<u8>>,
+    /// The lines of the hits that read first what was there from the start, of the values that the reason speaks of.
+    pub from_start: Vec<u32>,
     /// Why it is rejected.
     pub reason: Reason,
 }
@@ -38,6 +39,16 @@ impl Rejection {
         }
     }
 
+    /// Why it is rejected, and what of that was there from the start.
+    pub(crate) fn why(&self, alloc: Global) -> Result<String, AllocError>
+        ensures { IfOk result (λ why. IsWhy self.now (string_bytes why)) }
+    {
+        let explained = explanation(alloc, &self.scene(), &self.reason)?;
+        let start = start_why(alloc, &self.from_start)?;
+        let why = with_more(explained, start.as_str())?;
+        Ok(why)
+    }
+
     /// The answer that was begun with its verdict, and after that its explanation with this text at its end, if that is wanted.
     pub(crate) fn told_behind(
         &self,
@@ -53,7 +64,7 @@ impl Rejection {
         if !explain {
             return ended(form, begun);
         }
-        let explained = explanation(alloc, &self.scene(), &self.reason)?;
+        let explained = self.why(alloc)?;
         let why = with_more(explained, more)?;
         let mut text = begun;
         tell_why(alloc, form, &mut text, why.as_str())?;

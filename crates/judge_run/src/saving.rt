@@ -64,8 +64,8 @@ fn save_outcome<R: AllocGlobal + Files, E: Write>(
     ensures { IfErr result IsFault }
 {
     match outcome {
-        Outcome::Accepted(pair) => match files.trace {
-            Some(name) => save_trace(rt, name, pair, err),
+        Outcome::Accepted(acceptance) => match files.trace {
+            Some(name) => save_trace(rt, name, &acceptance.trace, err),
             None => Ok(()),
         },
         Outcome::Rejected(rejection) => match files.picture {

@@ -6,9 +6,15 @@ pub struct Scope {
     /// By how much each stamp may differ from the truth, in the unit of the stamps. Each call is judged as if it had started so much
     /// earlier and ended so much later; what it put expires so much later, and the moment of a hit is so much earlier.
     pub skew: u64,
+    /// Whether the cache may have been filled before the calls: a value that a hit read and nobody put is taken as there from the
+    /// start, one of a key, as `certificate_finder::warm` has it.
+    pub warm: bool,
 }
 
 impl Scope {
     /// All calls, as they were recorded.
-    pub const WHOLE: Scope = Scope { skew: 0 };
+    pub const WHOLE: Scope = Scope {
+        skew: 0,
+        warm: false,
+    };
 }

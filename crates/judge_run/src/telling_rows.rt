@@ -2,10 +2,13 @@
 ghost use Rattle.std.specs.Prelude.{◌≡◌, OnOk, length, string_bytes};
 ghost use Rattle.certificate_finder.specs.Finding.{IfRejected};
 ghost use Rattle.figures.specs.Figures.{with_rows};
+ghost use Rattle.judge_run.specs.Extents.{recorded_of};
 ghost use Rattle.judge_run.specs.FoundRows.{count_rows, found_rows, outcome_rows, rejected_rows, undecided_rows};
 ghost use Rattle.judge_run.specs.Listing.{IsListed, key_count};
 ghost use Rattle.judge_run.specs.ReasonRows.{reason_rows};
 
+use crate::extents::{recorded_of, tell_extent};
+use crate::from_start::{start_lines, tell_start};
 use crate::judged_text::JudgedText;
 use crate::key_word::{key_word, kind_word};
 use crate::kinds::tell_kinds;
@@ -16,23 +19,30 @@ use std::alloc::{AllocError, Global};
 use std::hash::BuildHasher;
 use trace_file::History;
 
-/// Tells what a reason speaks of.
+/// Tells what a reason speaks of, if so many calls were recorded.
 pub(crate) fn tell_reason(
     alloc: Global,
     form: Form,
     text: &mut String,
     history: &History,
     lines: &[u32],
+    recorded: usize,
     witness: &Witness,
 ) -> Result<(), AllocError>
     ensures { OnOk result (string_bytes text.new
-        ≡ with_rows form (string_bytes text.old) (reason_rows history.now lines.now witness.now)) }
+        ≡ with_rows form (string_bytes text.old)
+        (reason_rows history.now lines.now recorded witness.now)) }
 {
     let key = key_word(alloc, history, witness)?;
     let told = lines_of(alloc, lines, witness)?;
+    let start = start_lines(alloc, lines, recorded, witness)?;
     form.tell(alloc, text, "kind", Figure::Word(kind_word(witness)))?;
     form.tell(alloc, text, "key", Figure::Word(key.as_str()))?;
-    form.tell(alloc, text, "lines", Figure::Numbers(&told))
+    form.tell(alloc, text, "lines", Figure::Numbers(&told))?;
+    match tell_start(alloc, form, text, &start) {
+        Ok(()) => Ok(()),
+        Err(refused) => Err(refused),
+    }
 }
 
 /// Tells how many faults there are, and at how many keys.
@@ -61,7 +71,8 @@ fn tell_rejected<S: BuildHasher>(
     requires { judged.now.faults.keys ≡ key_count judged.now.text.history judged.now.faults.faults.items }
     ensures { OnOk result (string_bytes text.new
         ≡ with_rows form (string_bytes text.old)
-        (rejected_rows judged.now.text.history judged.now.text.lines.items witness.now
+        (rejected_rows judged.now.text.history judged.now.text.lines.items
+        (recorded_of judged.now.extent (length judged.now.text.history)) witness.now
         judged.now.faults.faults.items)) }
 {
     form.tell(alloc, text, "verdict", Figure::Word("rejected"))?;
@@ -71,6 +82,7 @@ fn tell_rejected<S: BuildHasher>(
         text,
         &judged.text.history,
         &judged.text.lines,
+        recorded_of(&judged.extent, judged.text.history.len()),
         witness,
     )?;
     let faults = judged.faults.faults.len();
@@ -101,7 +113,8 @@ fn tell_verdict<S: BuildHasher>(
     requires { IfRejected judged.now.found (λ _. IsListed judged.now.text.history judged.now.faults) }
     ensures { OnOk result (string_bytes text.new
         ≡ with_rows form (string_bytes text.old)
-        (outcome_rows judged.now.text.history judged.now.text.lines.items judged.now.found
+        (outcome_rows judged.now.text.history judged.now.text.lines.items
+        (recorded_of judged.now.extent (length judged.now.text.history)) judged.now.found
         judged.now.faults.faults.items)) }
 {
     match &judged.found {
@@ -111,8 +124,8 @@ fn tell_verdict<S: BuildHasher>(
     }
 }
 
-/// Tells what was found for the history of a text by rows: `calls`, the number of its calls, then how many of them are `puts`,
-/// `removals`, `hits` and `misses`, and `verdict`, which is `accepted`, `rejected` or `undecided`. After `rejected` come the `kind`
+/// Tells what was found for the history of a text by rows: `calls`, the number of its calls that were recorded, then how many of them are `puts`,
+/// `removals`, `hits` and `misses`, if values were taken as there from the start their number, `values-from-start`, and `verdict`, which is `accepted`, `rejected` or `undecided`. After `rejected` come the `kind`
 /// of the reason, its `key` and the `lines` that it speaks of, the number of all faults, `fault-count`, and that of their keys,
 /// `fault-keys`; after `undecided` comes the number of the `undecided-hits`. If memory
 /// is refused, the text is a front of the whole.
@@ -125,12 +138,13 @@ pub fn tell_found<S: BuildHasher>(
     requires { IfRejected judged.now.found (λ _. IsListed judged.now.text.history judged.now.faults) }
     ensures { OnOk result (string_bytes text.new
         ≡ with_rows form (string_bytes text.old)
-        (found_rows judged.now.text.history judged.now.text.lines.items judged.now.found
+        (found_rows judged.now.text.history judged.now.text.lines.items judged.now.extent judged.now.found
         judged.now.faults.faults.items)) }
 {
-    let calls = judged.text.history.len();
+    let calls = recorded_of(&judged.extent, judged.text.history.len());
     form.tell(alloc, text, "calls", Figure::Count(calls as u64))?;
-    tell_kinds(alloc, form, text, &judged.text.history)?;
+    tell_kinds(alloc, form, text, &judged.extent, &judged.text.history)?;
+    tell_extent(alloc, form, text, &judged.extent)?;
     match tell_verdict(alloc, form, text, judged) {
         Ok(()) => Ok(()),
         Err(refused) => Err(refused),

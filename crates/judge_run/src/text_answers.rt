@@ -1,11 +1,14 @@
 // The answers to texts.
-ghost use Rattle.std.specs.Prelude.{◌≡◌, [], IfOk, OnOk, string_bytes};
+ghost use Rattle.std.specs.Prelude.{◌≡◌, ◌++◌, [], IfOk, OnOk, string_bytes};
 ghost use Rattle.certificate_finder.specs.Finding.{IfRejected};
 ghost use Rattle.figures.specs.Figures.{with_rows};
+ghost use Rattle.judge_run.specs.Extents.{extent_text};
 ghost use Rattle.judge_run.specs.FoundRows.{found_rows};
 ghost use Rattle.judge_run.specs.Listing.{IsListed};
 ghost use Rattle.judge_run.specs.TextTold.{bad_answer, bad_line_rows, found_begun};
+ghost use Rattle.judge_run.specs.VerdictText.{verdict_text};
 
+use crate::extents::extent_text;
 use crate::judged_text::JudgedText;
 use crate::telling_found::verdict_text;
 use crate::telling_rows::tell_found;
@@ -22,12 +25,12 @@ pub(crate) fn found_begun<S: BuildHasher>(
 ) -> Result<String, AllocError>
     requires { IfRejected judged.now.found (λ _. IsListed judged.now.text.history judged.now.faults) }
     ensures { IfOk result (λ text. string_bytes text
-        ≡ found_begun form judged.now.text.history judged.now.text.lines.items judged.now.found
-        judged.now.faults.faults.items) }
+        ≡ found_begun form judged.now.text.history judged.now.text.lines.items judged.now.extent
+        judged.now.found judged.now.faults.faults.items) }
 {
     match form {
-        Form::Lines => match verdict_text(alloc, judged) {
-            Ok(line) => Ok(line),
+        Form::Lines => match lines_of(alloc, judged) {
+            Ok(lines) => Ok(lines),
             Err(refused) => Err(refused),
         },
         Form::Json => match members_of(alloc, judged) {
@@ -37,12 +40,24 @@ pub(crate) fn found_begun<S: BuildHasher>(
     }
 }
 
+/// The lines that tell what was found, and how what was judged differs from what the text spells.
+fn lines_of<S: BuildHasher>(alloc: Global, judged: &JudgedText<S>) -> Result<String, AllocError>
+    ensures { IfOk result (λ text. string_bytes text
+        ≡ verdict_text judged.now.text.history judged.now.text.lines.items judged.now.extent
+        judged.now.found ++ extent_text judged.now.extent) }
+{
+    let mut text = verdict_text(alloc, judged)?;
+    let extent = extent_text(alloc, &judged.extent)?;
+    text.push_str(extent.as_str())?;
+    Ok(text)
+}
+
 /// The members of a JSON object that tell what was found.
 fn members_of<S: BuildHasher>(alloc: Global, judged: &JudgedText<S>) -> Result<String, AllocError>
     requires { IfRejected judged.now.found (λ _. IsListed judged.now.text.history judged.now.faults) }
     ensures { IfOk result (λ text. string_bytes text ≡ with_rows Form.Json []
-        (found_rows judged.now.text.history judged.now.text.lines.items judged.now.found
-        judged.now.faults.faults.items)) }
+        (found_rows judged.now.text.history judged.now.text.lines.items judged.now.extent
+        judged.now.found judged.now.faults.faults.items)) }
 {
     let mut text = String::new(alloc);
     match tell_found(alloc, Form::Json, &mut text, judged) {

@@ -81,7 +81,7 @@ fn add_crossed(positions: &mut Vec<u32>, writes: &CrossedWrites) -> Result<(), A
 }
 
 /// The calls that a reason speaks of.
-fn positions_of(alloc: Global, witness: &Witness) -> Result<Vec<u32>, AllocError>
+pub(crate) fn positions_of(alloc: Global, witness: &Witness) -> Result<Vec<u32>, AllocError>
     ensures { IfOk result (λ positions. positions.items ≡ witness_positions witness.now) }
 {
     let mut positions = Vec::new(alloc);
@@ -144,8 +144,22 @@ pub(crate) fn lines_of(
         told.items ≡ ascending (lines_at lines.now (witness_positions witness.now))) }
 {
     let positions = positions_of(alloc, witness)?;
+    match ascending_lines(alloc, lines, &positions) {
+        Ok(told) => Ok(told),
+        Err(refused) => Err(refused),
+    }
+}
+
+/// The lines of the calls at these positions, ascending and each once.
+pub(crate) fn ascending_lines(
+    alloc: Global,
+    lines: &[u32],
+    positions: &[u32],
+) -> Result<Vec<u32>, AllocError>
+    ensures { IfOk result (λ told. told.items ≡ ascending (lines_at lines.now positions.now)) }
+{
     let mut told = Vec::new(alloc);
-    for position in &positions {
+    for position in positions {
         match put_line(&mut told, lines, *position) {
             Ok(()) => {}
             Err(refused) => return Err(refused),

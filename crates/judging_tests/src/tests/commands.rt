@@ -6,3 +6,4 @@ mod rows;
 mod seeds;
 mod streams;
 mod telling;
+mod warm;

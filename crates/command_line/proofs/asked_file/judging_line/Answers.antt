@@ -13,5 +13,5 @@ pub returns-clause-named : goal.returns-clause-named
 returns-clause-named c =
     asks_judging (rows_of (found_of c.args.found.now)) c.in_ok-file.file
     (ap Some c.in_ok-file.ensures ∙ found_text (found_of c.args.found.now) (codes "FILE") (codes "FILE") (Some c.in-Some.file.now) refl c.in-Some.ensures)
-    (record { file = c.in_ok-file.file; explain = c.is_on-explain.result; all = c.is_on-all.result; json = c.is_on-json.result; picture = c.in_ok-picture.picture; trace = c.in_ok-trace.trace; junit = c.in_ok-junit.junit; least = c.args.at_least; skew = c.args.skew })
-    refl c.is_on-explain.ensures c.is_on-all.ensures c.is_on-json.ensures c.in_ok-picture.ensures c.in_ok-trace.ensures c.in_ok-junit.ensures
+    (record { file = c.in_ok-file.file; explain = c.is_on-explain.result; all = c.is_on-all.result; json = c.is_on-json.result; picture = c.in_ok-picture.picture; trace = c.in_ok-trace.trace; junit = c.in_ok-junit.junit; least = c.args.at_least; skew = c.args.skew; warm = c.is_on-warm.result })
+    refl c.is_on-explain.ensures c.is_on-all.ensures c.is_on-json.ensures c.in_ok-picture.ensures c.in_ok-trace.ensures c.in_ok-junit.ensures c.is_on-warm.ensures

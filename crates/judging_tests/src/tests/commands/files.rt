@@ -224,7 +224,10 @@ fn judged_skewed<R: AllocGlobal + Files + RandomSource>(
     err: &mut Vec<u8>,
 ) -> Result<u8, AllocError> {
     let mut request = judge_of(rt.alloc(), "-")?;
-    request.scope = Scope { skew };
+    request.scope = Scope {
+        skew,
+        ..Scope::WHOLE
+    };
     Ok(judge_with(rt, &mut bytes, &request, out, err))
 }
 

@@ -147,7 +147,8 @@ fn trace(alloc: Global) -> Option<Vec<u8>> {
         Detail::NONE,
         &mut told,
     ) {
-        Some(Outcome::Accepted(trace)) => {
+        Some(Outcome::Accepted(accepted)) => {
+            let trace = accepted.trace;
             match write_trace(&trace.history, &trace.certificate, &mut bytes) {
                 Ok(()) => Some(bytes),
                 Err(_) => None,

@@ -188,7 +188,7 @@ fn each_text_has_its_verdict(rt: HostRuntime) {
 fn trace_of(alloc: Global, text: &str) -> Option<Vec<u8>> {
     let mut told: Vec<u8> = Vec::new(alloc);
     match judged(alloc, text, Detail::NONE, &mut told) {
-        Some(Outcome::Accepted(trace)) => bytes_of(alloc, &trace),
+        Some(Outcome::Accepted(accepted)) => bytes_of(alloc, &accepted.trace),
         _ => None,
     }
 }

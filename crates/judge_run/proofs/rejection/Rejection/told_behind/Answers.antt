@@ -7,10 +7,9 @@ use Rattle.judge_run.proofs.rejection.Rejection.told_behind.Goals as goal
 pub returns-in-Ok : goal.returns-in-Ok
 returns-in-Ok c =
     let form = c.args.form in
-    let why = rw (c.scene.ensures.history, c.scene.ensures.lines, c.scene.ensures.callers) at c.in_ok-explained.ensures in
     rw c.if-not-explain.false
     (record {
       why = string_bytes c.in_ok-explained.explained;
-      is = why;
+      is = c.in_ok-explained.ensures;
       text_is = c.in-Ok.ensures ∙ ap (ended form) (c.in_ok-tell_why.ensures ∙ ap (with_why form (string_bytes c.args.begun)) (c.as_str.ensures.value ∙ c.in_ok-why.ensures));
     })

@@ -1,0 +1,6 @@
+use Rattle.std.proofs.Common.{◌≡◌, take, string_bytes}
+use Rattle.judge_run.specs.FromStart.{start_why}
+use Rattle.judge_run.proofs.from_start.start_why.Given as goal
+
+abbrev pub invariant-loop-line : goal.invariant-loop-line
+invariant-loop-line l = string_bytes l.text ≡ start_why (take l.line-index l.lines)

@@ -1,0 +1,8 @@
+// How what is judged differs from what a text spells.
+
+/// How the calls that are judged differ from those that a text spells. Each number is there if that was asked for.
+#[derive(Clone, Copy, Debug, PartialEq, Eq)]
+pub struct Extent {
+    /// How many values were taken as there from the start. So many puts were added after the calls of the text.
+    pub from_start: Option<usize>,
+}
