@@ -1,5 +1,5 @@
 // Sessions of memcached's text protocol.
-ghost use Rattle.std.specs.Prelude.{◌≡◌, ◌≤◌, ◌==◌, not, length};
+ghost use Rattle.std.specs.Prelude.{◌≡◌, false, ◌≤◌, ◌==◌, not, length};
 ghost use Rattle.memcached_session.specs.Stepping.{Steps};
 ghost use Rattle.memcached_session.specs.Wanting.{want_of};
 ghost use Rattle.c_lane.specs.Sessions.{SessionSteps, wanted_by};
@@ -27,7 +27,8 @@ pub extern "C" fn ks_want(
     *to = session_wanted(session, seed, lanes, bytes);
 }
 
-/// Takes the next step of a session that asks nothing of a lane; nothing is done if it asks something.
+/// Takes the next step of a session that asks nothing of a lane; nothing is done if it asks something. No answer is lost in a room
+/// of 4,096 bytes.
 #[unsafe(no_mangle)]
 pub extern "C" fn ks_step(
     session: &mut Session,
@@ -39,12 +40,14 @@ pub extern "C" fn ks_step(
     ensures steps { Steps (not (turn.now.refuses == 0)) session.old bytes.now answer.old to.new session.new answer.new }
     ensures taken { to.new.taken ≤ length bytes.now }
     ensures answered { to.new.answered ≤ length answer.old }
+    ensures most { to.new.answered ≤ 4096 }
+    ensures whole { 4096 ≤ length answer.old → (to.new.outcome == 13) ≡ false }
 {
     *to = step(session, turn, bytes, answer);
 }
 
 /// Takes the next step of a session with the lane of its key, and says whether upkeep is due in the lane after it: 1 or 0. Nothing is
-/// taken if the step asks nothing of a lane.
+/// taken if the step asks nothing of a lane. No answer is lost in a room of 2,448 bytes.
 #[unsafe(no_mangle)]
 pub extern "C" fn ks_lane_step(
     alloc: Global,
@@ -62,6 +65,8 @@ pub extern "C" fn ks_lane_step(
         lane.old.lane lane.new.lane }
     ensures taken { to.new.taken ≤ length bytes.now }
     ensures answered { to.new.answered ≤ length answer.old }
+    ensures most { to.new.answered ≤ 2448 }
+    ensures whole { 2448 ≤ length answer.old → (to.new.outcome == 13) ≡ false }
     ensures due { TellsDue is_due.new lane.new.lane }
 {
     let mut kept = take_lane(alloc, lane);

@@ -1,5 +1,5 @@
 // Steps of sessions with a lane.
-ghost use Rattle.std.specs.Prelude.{◌≤◌, length};
+ghost use Rattle.std.specs.Prelude.{◌≡◌, false, ◌==◌, ◌≤◌, length};
 ghost use Rattle.c_lane.specs.Lane.{laws_of};
 ghost use Rattle.c_lane.specs.Sessions.{SessionSteps};
 
@@ -13,7 +13,7 @@ use std::alloc::Global;
 impl<D: PageDevice<4096>> CLane<D> {
     /// Takes the next step of a session that asks something of the lane of its key, does that by the next word of admission, writes
     /// its answer to the front of the room, and helps for the room that a store took. A step that asks nothing of a lane takes no
-    /// bytes.
+    /// bytes. An answer has at most 2,448 bytes, so none is lost in a room of as many.
     pub fn session_step(
         &mut self,
         alloc: Global,
@@ -26,6 +26,8 @@ impl<D: PageDevice<4096>> CLane<D> {
             result session.new room.new self.new }
         ensures taken { result.taken ≤ length bytes.now }
         ensures answered { result.answered ≤ length room.old }
+        ensures most { result.answered ≤ 2448 }
+        ensures whole { 2448 ≤ length room.old → (result.outcome == 13) ≡ false }
     {
         let word = self.words.next_word();
         let done = lane_step(
