@@ -1,5 +1,5 @@
 // The text whose cache was filled before it begins.
-ghost use Rattle.std.specs.Prelude.{◌≡◌, ◌++◌, ◌<◌, All, IfOk, OnOk, length};
+ghost use Rattle.std.specs.Prelude.{◌≡◌, ◌++◌, ◌<◌, All, IfOk, OnOk, length, true};
 ghost use Rattle.history_text.specs.Text.{text_by};
 ghost use Rattle.judge_run.specs.Scopes.{IsWarmedIf};
 ghost use Rattle.judge_run.specs.Telling.{lines_at};
@@ -54,7 +54,8 @@ fn warmed<S: BuildHasher + Copy + Drop>(
         lines,
         callers,
     } = text;
-    let Warmed { history, hits } = warm_with_hasher(alloc, hash_builder, history)?;
+    let warm = warm_with_hasher(alloc, hash_builder, history)?;
+    let Warmed { history, hits } = warm;
     let mut lines = lines;
     add_lines(&mut lines, &hits)?;
     let text = TextHistory {
