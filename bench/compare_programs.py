@@ -1,5 +1,5 @@
 #!/usr/bin/env python3
-"""compare_programs.py OLD NEW [RUNS]: two builds of the program beside one another: seconds and peak memory of scripts, runs and judging.
+"""compare_programs.py OLD NEW [RUNS]: two builds of the program beside one another: seconds and peak memory of scripts, runs, loads and judging.
 
 OLD and NEW are programs (`crates/bench_driver/out/bench_driver` of two trees). Each load is run RUNS times (5 if not given) by
 each program in turn, after one that does not count, so that what the machine does meanwhile meets both. A line has the load, the
@@ -30,11 +30,14 @@ def loads(folder):
     history = made(folder, "history", "make_text.py", "1000000", "1000")
     trace = f"{folder}/trace"
     run = ["run", "--trace", trace, "--lanes", "4"]
+    serve = ["serve-load", "--lanes", "4", "--operations", "1000000"]
     return [
         ("script, 1,000,000 gets of 100 objects", ["script"], hundred),
         ("script, 1,000,000 gets of 200,000 objects", ["script"], many),
         ("run, 1 caller, 400,000 operations", [*run, "--callers", "1", "--operations", "400000"], None),
         ("run, 4 callers, 400,000 operations", [*run, "--callers", "4", "--operations", "100000"], None),
+        ("serve-load, 1 caller, 1,000,000 operations", [*serve, "--callers", "1"], None),
+        ("serve-load, 4 callers, 4,000,000 operations", [*serve, "--callers", "4"], None),
         ("judge, 1,000,000 calls", ["judge", history], None),
     ]
 

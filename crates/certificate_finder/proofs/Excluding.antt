@@ -15,11 +15,12 @@ use Rattle.certificate_checker.proofs.public_laws.Lookups.{some_and}
 use Rattle.certificate_finder.specs.declared.excluded.Excluded.{Excluded}
 use Rattle.certificate_finder.specs.declared.excluded.Excuse.{Excuse}
 use Rattle.certificate_finder.specs.declared.excluded.Excuse.TheVariants.{Later, Expired, Replaced}
+use Rattle.certificate_finder.specs.declared.faults.CrossedWrites.{CrossedWrites}
 use Rattle.certificate_finder.specs.declared.witness.Side.{Side}
 use Rattle.certificate_finder.specs.declared.witness.Witness.{Witness}
 use Rattle.certificate_finder.specs.declared.witness.Witness.TheVariants as witnesses
 use Rattle.certificate_finder.specs.Reads.{StandsBetween}
-use Rattle.certificate_finder.specs.Witnesses.{Excludes, IsExcluded, ReadsNone, GoesWith, IsSide, AreCrossed, IsWitness}
+use Rattle.certificate_finder.specs.Witnesses.{AreCrossed, AreCrossedIfRead, Excludes, GoesIfRead, GoesWith, IsExcluded, IsSide, IsUnread, IsWitness, ReadsNone}
 use Rattle.certificate_finder.proofs.Reading.{all_at, no_write, agrees_at, placed_at, one_place, reads, begun, none_between, could_read}
 
 -- what is read is not excluded
@@ -40,13 +41,13 @@ not_this history hit put value moment expires position at is behind live stands 
     not_excused history hit put moment expires behind live stands one.why (subst (λ e. Excludes history hit put moment e one.why) expiry (subst (λ p. Excludes history hit p moment excluded.expires one.why) same excluded.why))
 
 -- a write's place, and the place of a call that goes with it: no other write of the key stands from the one to the other
-pub record Stretch (history : List Call) (certificate : List ℕ) (write call : ℕ) (key : List ℕ) : Type 0 where
-  pub first : ℕ
-  pub last : ℕ
-  pub first_at : slice_get certificate first ≡ Some write
-  pub last_at : slice_get certificate last ≡ Some call
-  pub in_order : first ≤ last
-  pub unwritten : (j q : ℕ) (other : Call) → first < j → j ≤ last → slice_get certificate j ≡ Some q → slice_get history q ≡ Some other → ¬ Writes (deed_of other) key
+record Stretch (history : List Call) (certificate : List ℕ) (write call : ℕ) (key : List ℕ) : Type 0 where
+  first : ℕ
+  last : ℕ
+  first_at : slice_get certificate first ≡ Some write
+  last_at : slice_get certificate last ≡ Some call
+  in_order : first ≤ last
+  unwritten : (j q : ℕ) (other : Call) → first < j → j ≤ last → slice_get certificate j ≡ Some q → slice_get history q ≡ Some other → ¬ Writes (deed_of other) key
 
 module _ (history : List Call) (certificate : List ℕ) (a : IsAccepted history certificate) where
   no_interval : (position : ℕ) (call : Call) → slice_get history position ≡ Some call → ¬ (call.end < call.start)
@@ -64,7 +65,7 @@ module _ (history : List Call) (certificate : List ℕ) (a : IsAccepted history 
       not_this history none.call read.put none.value none.moment read.expires read.position read.at read.is from read.live between listed.0 listed.2 excluded
 
   -- a write and a hit that read it
-  pub stretch_read : (key : List ℕ) (write : ℕ) (written : Call) (call : ℕ) (hit : Call) (value : List ℕ) (moment : ℕ) (place : ℕ) (at_place : slice_get certificate place ≡ Some call) (found : slice_get history call ≡ Some hit) (is : hit.act ≡ Hit value moment) → slice_get history write ≡ Some written → Writes (deed_of written) key → (reads history certificate a place call hit value moment at_place found is).position ≡ write → Stretch history certificate write call key
+  stretch_read : (key : List ℕ) (write : ℕ) (written : Call) (call : ℕ) (hit : Call) (value : List ℕ) (moment : ℕ) (place : ℕ) (at_place : slice_get certificate place ≡ Some call) (found : slice_get history call ≡ Some hit) (is : hit.act ≡ Hit value moment) → slice_get history write ≡ Some written → Writes (deed_of written) key → (reads history certificate a place call hit value moment at_place found is).position ≡ write → Stretch history certificate write call key
   stretch_read key write written call hit value moment place at_place found is at writes it =
       let read = reads history certificate a place call hit value moment at_place found is in
       let first = placed_at history certificate a write written at in
@@ -91,7 +92,7 @@ module _ (history : List Call) (certificate : List ℕ) (a : IsAccepted history 
         ];
       }
 
-  pub stretch : (key : List ℕ) (write : ℕ) (written : Call) (call : ℕ) → slice_get history write ≡ Some written → Writes (deed_of written) key → GoesWith history write call → Stretch history certificate write call key
+  stretch : (key : List ℕ) (write : ℕ) (written : Call) (call : ℕ) → slice_get history write ≡ Some written → Writes (deed_of written) key → GoesWith history write call → Stretch history certificate write call key
   stretch key write written call at writes goes =
       let first = placed_at history certificate a write written at in
       elim goes [
@@ -111,7 +112,7 @@ module _ (history : List Call) (certificate : List ℕ) (a : IsAccepted history 
       ]
 
   -- a write does not stand before another one, if a call that goes with that one precedes a call that goes with it
-  pub not_ahead : (key : List ℕ) (one other late early : ℕ) (written : Call) (i j : ℕ) → Stretch history certificate one late key → Stretch history certificate other early key → slice_get history other ≡ Some written → Writes (deed_of written) key → IsSomeAnd (slice_get history early) (λ e. IsSomeAnd (slice_get history late) (λ l. Precedes e l)) → slice_get certificate i ≡ Some one → slice_get certificate j ≡ Some other → ¬ (i < j)
+  not_ahead : (key : List ℕ) (one other late early : ℕ) (written : Call) (i j : ℕ) → Stretch history certificate one late key → Stretch history certificate other early key → slice_get history other ≡ Some written → Writes (deed_of written) key → IsSomeAnd (slice_get history early) (λ e. IsSomeAnd (slice_get history late) (λ l. Precedes e l)) → slice_get certificate i ≡ Some one → slice_get certificate j ≡ Some other → ¬ (i < j)
   not_ahead key one other late early written i j own others at writes precedes at_i at_j less =
       let from : own.first ≡ i = one_place history certificate a own.first i one own.first_at at_i in
       let to : others.first ≡ j = one_place history certificate a others.first j other others.first_at at_j in
@@ -146,8 +147,37 @@ module _ (history : List Call) (certificate : List ℕ) (a : IsAccepted history 
         ]
       ]
 
+  not_crossed_if_read : (hit : ℕ) (reads_it : List CrossedWrites) (is : IsUnread history hit reads_it) (place : ℕ) (placed : slice_get certificate place ≡ Some hit) (writes : CrossedWrites) → (reads history certificate a place hit is.call is.value is.moment placed is.at is.is).position ≡ writes.one.write → ¬ AreCrossedIfRead (GoesWith history) history hit writes
+  not_crossed_if_read hit reads_it is place placed writes it c =
+      let v = some_and (slice_get history writes.one.write) (λ write. Writes (deed_of write) c.key) c.one_writes in
+      let w = some_and (slice_get history writes.other.write) (λ write. Writes (deed_of write) c.key) c.other_writes in
+      let i = placed_at history certificate a writes.one.write v.0 v.1 in
+      let j = placed_at history certificate a writes.other.write w.0 w.1 in
+      let own : (call : ℕ) → GoesIfRead (GoesWith history) hit writes.one.write call → Stretch history certificate writes.one.write call c.key = λ call goes. elim goes [
+        | inl same ↦ subst (λ p. Stretch history certificate writes.one.write p c.key) (sym same) (stretch_read c.key writes.one.write v.0 hit is.call is.value is.moment place placed is.at is.is v.1 v.2 it)
+        | inr with ↦ stretch c.key writes.one.write v.0 call v.1 v.2 with
+      ] in
+      let others_early = stretch c.key writes.other.write w.0 writes.other.early w.1 w.2 c.other_early in
+      let others_late = stretch c.key writes.other.write w.0 writes.other.late w.1 w.2 c.other_late in
+      elim (cases_before i.0 j.0) [
+        | inl less ↦ not_ahead c.key writes.one.write writes.other.write writes.one.late writes.other.early w.0 i.0 j.0 (own writes.one.late c.one_late) others_early w.1 w.2 c.back i.1 j.1 less
+        | inr rest ↦ elim rest [
+          | inl same ↦ c.apart (let both : Some writes.one.write ≡ Some writes.other.write = sym i.1 ∙ ap (slice_get certificate) same ∙ j.1 in cc)
+          | inr less ↦ not_ahead c.key writes.other.write writes.one.write writes.other.late writes.one.early v.0 j.0 i.0 others_late (own writes.one.early c.one_early) v.1 v.2 c.forth j.1 i.1 less
+        ]
+      ]
+
+  no_unread : (hit : ℕ) (reads_it : List CrossedWrites) → ¬ IsUnread history hit reads_it
+  no_unread hit reads_it is =
+      let place = placed_at history certificate a hit is.call is.at in
+      let could = could_read history certificate a place.0 hit is.call is.value is.moment place.1 is.at is.is in
+      let read = reads history certificate a place.0 hit is.call is.value is.moment place.1 is.at is.is in
+      let listed = member_map (λ (writes : CrossedWrites). writes.one.write) reads_it read.position (member_contained (map (λ (writes : CrossedWrites). writes.one.write) reads_it) read.position (is.all read.position could)) in
+      not_crossed_if_read hit reads_it is place.0 place.1 listed.0 listed.2 (all_member (AreCrossedIfRead (GoesWith history) history hit) reads_it listed.0 is.each listed.1)
+
   pub no_witness : (witness : Witness) → ¬ IsWitness history witness
   no_witness (witnesses.Interval position) h =
       let found = some_and (slice_get history position) (λ call. call.end < call.start) h in no_interval position found.0 found.1 found.2
   no_witness (witnesses.Hit hit puts) h = some_read hit puts.items h
   no_witness (witnesses.Crossed one other) h = not_crossed one other h
+  no_witness (witnesses.Unread unread) h = no_unread unread.hit unread.reads.items h

@@ -86,6 +86,12 @@ no_items items lent same none =
     let l : length lent ≡ 0 = grind (arith, nat_tests) in
     sym (ap length same) ∙ l
 
+-- and not empty if the test says so
+pub some_items : {X : Type 0} (items lent : List X) → lent ≡ items → false ≡ eqb (length lent) 0 → 0 < length items
+some_items items lent same some =
+    let l : 0 < length lent = grind (arith, nat_tests) in
+    subst (λ xs. 0 < length xs) same l
+
 pub none_left : (items lent : List ℕ) → lent ≡ items → true ≡ eqb (length lent) 0 → items ≡ []
 none_left items lent same none = nil_from_length items (no_items items lent same none)
 

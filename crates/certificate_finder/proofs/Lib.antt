@@ -40,7 +40,6 @@ mod WarmLemmas
 mod WarmingLemmas
 mod ColdLemmas
 mod PastLemmas
-mod UnreadLaws
 mod TopLemmas
 mod IfReadLemmas
 mod UnreadLemmas

@@ -1,10 +1,12 @@
 -- Hits that would cross two writes whichever put they read, in numbers and of their history.
-use Rattle.std.proofs.Common.{◌≡◌, ℕ, ◌+◌, ◌<◌, ◌≤◌, Bool, true, false, None, Option, Some, List, [], ◌∷◌, ◌++◌, length, refl, sym, ap, ◌∙◌, subst, arith, inl, inr}
-use Rattle.std.specs.Prelude.{All, Contains, IsSomeAnd, IsTrue, slice_get}
+use Rattle.std.proofs.Common.{◌≡◌, ℕ, ◌+◌, ◌<◌, ◌≤◌, Bool, true, false, Some, List, [], ◌∷◌, ◌++◌, length, refl, sym, ap, ◌∙◌, subst, arith, inl, inr, get_or}
+use Rattle.std.specs.Option.{option_map}
+use Rattle.std.specs.Prelude.{All, AllPairs, Contains, IsSomeAnd, IsTrue, slice_get}
 use Rattle.std.proofs.lemmas.Bool.{cases_eq, cases_lt}
-use Rattle.std.proofs.lemmas.List.{map_push}
+use Rattle.std.proofs.lemmas.List.{length-map, map_push}
 use Rattle.std.proofs.lemmas.List.Elements.{All-contains, All-nil, All-push, All-weaker, Contains-append_left, Contains-push}
-use Rattle.std.proofs.lemmas.Option.{same_Some, slice_get_within}
+use Rattle.std.proofs.lemmas.List.Quantifiers.{all_pairs_push}
+use Rattle.std.proofs.lemmas.Option.{same_Some, slice_get-map, slice_get_within}
 use Rattle.record_pages.specs.Expiry.{is_live}
 use Rattle.trace_file.specs.declared.call.Call.{Call}
 use Rattle.certificate_checker.specs.Deeds.{deed_of}
@@ -14,24 +16,35 @@ use Rattle.certificate_checker.proofs.public_laws.Listing.{all_member, member_co
 use Rattle.certificate_checker.proofs.public_laws.Lookups.{and_some, some_and}
 use Rattle.certificate_finder.specs.declared.call_kind.CallKind.TheVariants as kinds
 use Rattle.certificate_finder.specs.declared.faults.CrossedWrites.{CrossedWrites}
+use Rattle.certificate_finder.specs.declared.found.Found.TheVariants.{Rejected}
 use Rattle.certificate_finder.specs.declared.numbered_call.NumberedCall.{NumberedCall}
 use Rattle.certificate_finder.specs.declared.owning.Owners.{Owners}
 use Rattle.certificate_finder.specs.declared.put.Put.{Put}
+use Rattle.certificate_finder.specs.declared.ranked.Ranked.{Ranked}
+use Rattle.certificate_finder.specs.declared.stamp.Stamp.TheVariants.{End}
 use Rattle.certificate_finder.specs.declared.unread_hit.UnreadHit.{UnreadHit}
-use Rattle.certificate_finder.specs.Offering.{ReadsIn}
-use Rattle.certificate_finder.specs.Owning.{AreKnownOwners, IsUnsure}
+use Rattle.certificate_finder.specs.declared.witness.Witness.TheVariants.{Unread}
+use Rattle.certificate_finder.specs.Choosing.{IsEarlierBy}
+use Rattle.certificate_finder.specs.Faults.{AreUnreadHits, unread_in}
+use Rattle.certificate_finder.specs.Finding.{AreForward, IsFound}
+use Rattle.certificate_finder.specs.Lining.{positions_in}
+use Rattle.certificate_finder.specs.Offering.{AreByStamps, ReadsIn, stamp_at}
+use Rattle.certificate_finder.specs.Owning.{AreKnownOwners, AreSingle, AreSureOwners, IsUnsure}
 use Rattle.certificate_finder.specs.Putting.{ArePuts}
-use Rattle.certificate_finder.specs.Reads.{CouldRead, HasNone}
-use Rattle.certificate_finder.specs.Steps.{AreSteps, IsWriting, kind_of}
-use Rattle.certificate_finder.specs.Unread.{AreCrossedIfRead, GoesIfRead, IsUnread, PrecedesAt}
-use Rattle.certificate_finder.specs.Unreading.{AreReadsFrom, GoesIf, HasNoUnread, HasOpen, IsFoundUnread, IsUnreadAmong, IsCrossedIf, IsCrossedRead, IsLookedAt, IsUnreadIn, puts_in}
-use Rattle.certificate_finder.specs.Witnesses.{GoesWith}
-use Rattle.certificate_finder.specs.Zones.{Goes}
+use Rattle.certificate_finder.specs.Reads.{CouldRead, HasSeveral}
+use Rattle.certificate_finder.specs.Steps.{AreSteps, IsWriting}
+use Rattle.certificate_finder.specs.Trying.{AreSure}
+use Rattle.certificate_finder.specs.Turns.{end_at}
+use Rattle.certificate_finder.specs.Unreading.{AreReadsFrom, AreUnreadOf, AreUnreadUpto, HasOpen, IsBelow, IsCrossedIf, IsCrossedRead, IsLookedAt, IsUnreadIn, puts_in}
+use Rattle.certificate_finder.specs.Witnesses.{AreCrossedIfRead, GoesIfRead, GoesWith, IsUnread, IsUnreadBy, PrecedesAt}
+use Rattle.certificate_finder.specs.Zones.{AreUncrossed, Goes}
 use Rattle.certificate_finder.proofs.EndLemmas.{found_at}
-use Rattle.certificate_finder.proofs.FaultLemmas.{has_none}
-use Rattle.certificate_finder.proofs.FindLemmas.{call_at, could_by, could_of, goes_with, has_several, hit_at, reads_of, several_of, step_at, write_of, writing_of}
-use Rattle.certificate_finder.proofs.FoundLemmas.{single_known}
-use Rattle.certificate_finder.proofs.Listing.{index_of, same_at}
+use Rattle.certificate_finder.proofs.FaultLemmas.{ends_earlier, some_read}
+use Rattle.certificate_finder.proofs.FindLemmas.{call_at, could_by, goes_with, has_several, hit_at, reads_of, several_of, step_at, write_of, writing_of}
+use Rattle.certificate_finder.proofs.FoundLemmas.{single_known, single_sure}
+use Rattle.certificate_finder.proofs.Listing.{all_at, all_from_at, contains_at, index_of, pair_at, pairs_from_at, same_at}
+use Rattle.certificate_finder.proofs.TryingLemmas.{are_sure}
+use Rattle.certificate_finder.proofs.Settling.{goes_back, not_crossed, unread_several}
 
 -- ---- the puts that a hit can have read
 
@@ -104,14 +117,128 @@ module _ (steps : List NumberedCall) (owners : List ℕ) (hit : ℕ) (puts : Lis
         subst (Contains (puts_in reads)) same (had.all k.0 told.item (omega arith) k.1 (subst (ReadsIn steps hit) (sym same) can));
   }
 
+-- ---- the hits whose puts would all be crossed
+
+module _ (steps : List NumberedCall) (owners hits : List ℕ) where
+  pub unread_begin : AreUnreadUpto steps owners hits 0 []
+  unread_begin = record {
+    each = All-nil (λ (unread : UnreadHit). IsUnreadIn steps owners unread.hit unread.reads.items);
+    below = All-nil (IsBelow hits 0);
+    all = λ hit is. let less : is.0 < 0 = is.1 in absurd (omega arith);
+    order = λ i j d less within. absurd (omega arith);
+  }
+
+  still_below : (upto hit : ℕ) → IsBelow hits upto hit → IsBelow hits (upto + 1) hit
+  still_below upto hit is = let less : is.0 < upto = is.1 in (is.0, omega arith, is.2)
+
+  -- one hit more has a put that would not be crossed
+  pub unread_pass : (upto hit : ℕ) (found : List UnreadHit) → slice_get hits upto ≡ Some hit → HasOpen steps owners hit → AreUnreadUpto steps owners hits upto found → AreUnreadUpto steps owners hits (upto + 1) found
+  unread_pass upto hit found at open_it had = record {
+    each = had.each;
+    below = All-weaker (IsBelow hits upto) (IsBelow hits (upto + 1)) (still_below upto) (unread_in found) had.below;
+    all = λ other is. let less : is.0 < upto + 1 = is.1 in elim (cases_eq is.0 upto) [
+      | inl here ↦ inl (subst (HasOpen steps owners) (same_at hits upto is.0 hit other (sym here) at is.2) open_it)
+      | inr apart ↦ had.all other (is.0, omega arith, is.2)
+    ];
+    order = had.order;
+  }
+
+  -- one hit more has none
+  pub unread_more : (upto : ℕ) (found new : List UnreadHit) (one : UnreadHit) → AllPairs (IsEarlierBy (stamp_at End steps)) hits → slice_get hits upto ≡ Some one.hit → IsUnreadIn steps owners one.hit one.reads.items → new ≡ found ++ one ∷ [] → AreUnreadUpto steps owners hits upto found → AreUnreadUpto steps owners hits (upto + 1) new
+  unread_more upto found new one order at is same had =
+      let positions : unread_in new ≡ unread_in found ++ one.hit ∷ [] = ap unread_in same ∙ map_push (λ (unread : UnreadHit). unread.hit) found one in
+      record {
+        each = subst (All (λ (unread : UnreadHit). IsUnreadIn steps owners unread.hit unread.reads.items)) (sym same) (All-push (λ (unread : UnreadHit). IsUnreadIn steps owners unread.hit unread.reads.items) found one had.each is);
+        below = subst (All (IsBelow hits (upto + 1))) (sym positions) (All-push (IsBelow hits (upto + 1)) (unread_in found) one.hit (All-weaker (IsBelow hits upto) (IsBelow hits (upto + 1)) (still_below upto) (unread_in found) had.below) (upto, omega arith, at));
+        all = λ other below. let less : below.0 < upto + 1 = below.1 in elim (cases_eq below.0 upto) [
+          | inl here ↦
+              let e : one.hit ≡ other = same_at hits upto below.0 one.hit other (sym here) at below.2 in
+              inr (subst (λ ps. Contains ps other) (sym positions) (subst (Contains (unread_in found ++ one.hit ∷ [])) e (Contains-push (unread_in found) one.hit)))
+          | inr apart ↦ elim (had.all other (below.0, omega arith, below.2)) [
+            | inl open_it ↦ inl open_it
+            | inr listed ↦ inr (subst (λ ps. Contains ps other) (sym positions) (Contains-append_left (unread_in found) (one.hit ∷ []) other listed))
+          ]
+        ];
+        order = subst (AllPairs (IsEarlierBy (stamp_at End steps))) (sym positions) (all_pairs_push (IsEarlierBy (stamp_at End steps)) (unread_in found) one.hit had.order (λ k d less.
+            let b = had.below k d less in
+            pair_at (IsEarlierBy (stamp_at End steps)) hits b.0 upto (get_or (unread_in found) k d) one.hit order b.1 b.2 at));
+      }
+
+-- all hits were looked at
+pub all_unread : (steps : List NumberedCall) (owners unsure : List ℕ) (hits : List Ranked) (found : List UnreadHit) → AreByStamps End steps unsure hits → AreUnreadUpto steps owners (positions_in hits) (length hits) found → AreUnreadOf steps owners unsure found
+all_unread steps owners unsure hits found turned had =
+    let count : length (positions_in hits) ≡ length hits = length-map hits (λ (r : Ranked). r.position) in
+    record {
+      each = had.each;
+      among = All-weaker (IsBelow (positions_in hits) (length hits)) (Contains unsure) (λ hit is. (turned.same hit).1 (contains_at (positions_in hits) is.0 hit is.2)) (unread_in found) had.below;
+      all = λ hit listed.
+          let k = index_of (positions_in hits) hit ((turned.same hit).0 listed) in
+          let within = slice_get_within (positions_in hits) k.0 hit k.1 in
+          had.all hit (k.0, omega arith, k.1);
+      order = had.order;
+    }
+
+-- hits by their ends are those that can have read several puts
+pub ranked_unsure : (steps : List NumberedCall) (unsure : List ℕ) (hits : List Ranked) → AreByStamps End steps unsure hits → All (IsUnsure steps) unsure → All (IsUnsure steps) (positions_in hits)
+ranked_unsure steps unsure hits turned each = all_from_at (IsUnsure steps) (positions_in hits) (λ k hit at.
+    All-contains (IsUnsure steps) unsure hit each ((turned.same hit).1 (contains_at (positions_in hits) k hit at)))
+
+-- ---- by other calls that go with a write
+
+module _ (G H : ℕ → ℕ → Type 0) (more : (write call : ℕ) → G write call → H write call) (history : List Call) where
+  goes_weaker : (hit put call : ℕ) → GoesIfRead G hit put call → GoesIfRead H hit put call
+  goes_weaker hit put call goes = elim goes [
+    | inl same ↦ inl same
+    | inr with ↦ inr (more put call with)
+  ]
+
+  crossed_weaker : (hit : ℕ) (writes : CrossedWrites) → AreCrossedIfRead G history hit writes → AreCrossedIfRead H history hit writes
+  crossed_weaker hit writes c = record {
+    key = c.key;
+    apart = c.apart;
+    one_writes = c.one_writes;
+    other_writes = c.other_writes;
+    one_early = goes_weaker hit writes.one.write writes.one.early c.one_early;
+    one_late = goes_weaker hit writes.one.write writes.one.late c.one_late;
+    other_early = more writes.other.write writes.other.early c.other_early;
+    other_late = more writes.other.write writes.other.late c.other_late;
+    forth = c.forth;
+    back = c.back;
+  }
+
+  pub unread_weaker : (hit : ℕ) (reads : List CrossedWrites) → IsUnreadBy G history hit reads → IsUnreadBy H history hit reads
+  unread_weaker hit reads is = record {
+    call = is.call;
+    value = is.value;
+    moment = is.moment;
+    at = is.at;
+    is = is.is;
+    each = All-weaker (AreCrossedIfRead G history hit) (AreCrossedIfRead H history hit) (crossed_weaker hit) reads is.each;
+    only = is.only;
+    all = is.all;
+  }
+
 -- ---- what that says of the history
 
-module _ (history : List Call) (steps : List NumberedCall) (are : AreSteps history steps) (owners : Owners) (own : AreKnownOwners steps (length steps) owners) where
-  goes_if : (hit put q : ℕ) (s : NumberedCall) → slice_get steps q ≡ Some s → GoesIf owners.owners.items hit put q → GoesIfRead history hit put q
-  goes_if hit put q s at goes = elim goes [
+-- the position of the hit at an index
+unread_at : (found : List UnreadHit) (k : ℕ) (unread : UnreadHit) → slice_get found k ≡ Some unread → slice_get (unread_in found) k ≡ Some unread.hit
+unread_at found k unread at = slice_get-map (λ (one : UnreadHit). one.hit) found k ∙ ap (option_map (λ (one : UnreadHit). one.hit)) at
+
+module _ (history : List Call) (steps : List NumberedCall) (are : AreSteps history steps) (owners : List ℕ) (single : AreSingle steps owners) where
+  -- what goes with a write in numbers goes with it in words
+  goes_on : (write q : ℕ) → Goes owners write q → GoesWith history write q
+  goes_on write q goes = elim goes [
     | inl same ↦ inl same
-    | inr with ↦ inr (goes_with history steps are owners.owners.items put q s (single_known steps owners own) at with)
+    | inr at ↦
+        let within = slice_get_within owners q write at in
+        let count = single.count in
+        let s = found_at steps q (omega arith) in
+        goes_with history steps are owners write q s.0 single s.1 (inr at)
   ]
+
+  -- and what is unread by it in numbers is so in words
+  pub unread_on : (hit : ℕ) (reads : List CrossedWrites) → IsUnreadBy (Goes owners) history hit reads → IsUnread history hit reads
+  unread_on = unread_weaker (Goes owners) (GoesWith history) goes_on history
 
   precedes : (p q : ℕ) (s t : NumberedCall) → slice_get steps p ≡ Some s → slice_get steps q ≡ Some t → s.end < t.start → PrecedesAt history p q
   precedes p q s t at_s at_t less =
@@ -121,7 +248,7 @@ module _ (history : List Call) (steps : List NumberedCall) (are : AreSteps histo
       let f = b.2.start in
       and_some (slice_get history p) (λ first. IsSomeAnd (slice_get history q) (λ second. Precedes first second)) a.0 a.1 (and_some (slice_get history q) (λ second. Precedes a.0 second) b.0 b.1 (omega (arith, less, e, f)))
 
-  crossed_call : (hit : ℕ) (writes : CrossedWrites) → IsCrossedRead steps owners.owners.items hit writes → AreCrossedIfRead history hit writes
+  crossed_call : (hit : ℕ) (writes : CrossedWrites) → IsCrossedRead steps owners hit writes → AreCrossedIfRead (Goes owners) history hit writes
   crossed_call hit writes is =
       let c = is.crossed in
       let v = call_at history steps are writes.one.write c.given c.given_at in
@@ -134,10 +261,10 @@ module _ (history : List Call) (steps : List NumberedCall) (are : AreSteps histo
         apart = λ same. c.apart (sym same);
         one_writes = and_some (slice_get history writes.one.write) (λ write. Writes (deed_of write) v.0.key) v.0 v.1 (refl, write_of v.0.act (subst IsWriting v.2.kind writing));
         other_writes = and_some (slice_get history writes.other.write) (λ write. Writes (deed_of write) v.0.key) w.0 w.1 (alike.keys.0 c.key, write_of w.0.act (subst IsWriting w.2.kind c.writing));
-        one_early = goes_if hit writes.one.write writes.one.early c.early c.early_at c.early_goes;
-        one_late = goes_if hit writes.one.write writes.one.late c.late c.late_at c.late_goes;
-        other_early = goes_with history steps are owners.owners.items writes.other.write writes.other.early c.other_early (single_known steps owners own) c.other_early_at c.other_early_goes;
-        other_late = goes_with history steps are owners.owners.items writes.other.write writes.other.late c.other_late (single_known steps owners own) c.other_late_at c.other_late_goes;
+        one_early = c.early_goes;
+        one_late = c.late_goes;
+        other_early = c.other_early_goes;
+        other_late = c.other_late_goes;
         forth = precedes writes.one.early writes.other.late c.early c.other_late c.early_at c.other_late_at c.forth;
         back = precedes writes.other.early writes.one.late c.other_early c.late c.other_early_at c.late_at c.back;
       }
@@ -147,7 +274,7 @@ module _ (history : List Call) (steps : List NumberedCall) (are : AreSteps histo
       let p = step_at history steps are put could.stands.has.put_call could.stands.has.put_at in
       record { asked = s; given = p.0; asked_at = at; given_at = p.1; kind = kind; reads = reads_of history steps are hit put s p.0 at p.1 could }
 
-  pub is_unread : (hit : ℕ) (reads : List CrossedWrites) → IsUnsure steps hit → IsUnreadIn steps owners.owners.items hit reads → IsUnread history hit reads
+  pub is_unread : (hit : ℕ) (reads : List CrossedWrites) → IsUnsure steps hit → IsUnreadIn steps owners hit reads → IsUnreadBy (Goes owners) history hit reads
   is_unread hit reads unsure is =
       let c = call_at history steps are hit unsure.step unsure.at in
       let v = hit_at history steps are hit c.0 unsure.step c.2 unsure.kind in
@@ -157,99 +284,140 @@ module _ (history : List Call) (steps : List NumberedCall) (are : AreSteps histo
         moment = v.1;
         at = c.1;
         is = v.2;
-        each = All-weaker (IsCrossedRead steps owners.owners.items hit) (AreCrossedIfRead history hit) (crossed_call hit) reads is.each;
+        each = All-weaker (IsCrossedRead steps owners hit) (AreCrossedIfRead (Goes owners) history hit) (crossed_call hit) reads is.each;
+        only = All-weaker (IsCrossedRead steps owners hit) (λ (writes : CrossedWrites). CouldRead history hit writes.one.write) (λ writes read.
+            let r = read.reads in
+            could_by history steps are hit writes.one.write r.asked r.given r.asked_at r.given_at r.kind r.reads) reads is.each;
         all = λ put could. is.all put (reads_in hit put unsure.step unsure.at unsure.kind could);
       }
 
-  -- ---- and back, if each hit can have read a put
+  -- ---- and back
 
-  module _ (some : (hit : ℕ) → ¬ HasNone history hit) where
-    goes_back : (write q : ℕ) → GoesWith history write q → Goes owners.owners.items write q
-    goes_back write q goes = elim goes [
-      | inl same ↦ inl same
-      | inr hit ↦
-          let s = step_at history steps are q hit.0 hit.3 in
-          let within = slice_get_within steps q s.0 s.1 in
-          let count = own.count in
-          let o = found_at owners.owners.items q (omega arith) in
-          let kind = s.2.kind ∙ ap kind_of hit.4 in
-          elim (own.owned q s.0 o.0 s.1 o.1) [
-            | inl sure ↦ elim sure [
-              | inl alone ↦
-                  let two = has_several history steps are q (record { step = s.0; at = s.1; kind = kind; several = alone.1 kind }) in
-                  absurd (two.apart (hit.5 two.one two.first ∙ sym (hit.5 two.other two.second)))
-              | inr only ↦ inr (o.1 ∙ ap Some (hit.5 o.0 (could_of history steps are q o.0 s.0 s.1 kind only.1)))
-            ]
-            | inr none ↦ absurd (some q (has_none history steps are q (record { step = s.0; at = s.1; kind = kind; none = none.2 })))
-          ]
-    ]
+  crossed_back : (hit : ℕ) (writes : CrossedWrites) → AreCrossedIfRead (Goes owners) history hit writes → IsCrossedIf steps owners hit writes.one.write writes
+  crossed_back hit writes c =
+      let v = some_and (slice_get history writes.one.write) (λ write. Writes (deed_of write) c.key) c.one_writes in
+      let w = some_and (slice_get history writes.other.write) (λ write. Writes (deed_of write) c.key) c.other_writes in
+      let s = step_at history steps are writes.one.write v.0 v.1 in
+      let t = step_at history steps are writes.other.write w.0 w.1 in
+      let alike = are.alike writes.other.write writes.one.write w.0 v.0 t.0 s.0 w.1 v.1 t.1 s.1 in
+      let early = some_and (slice_get history writes.one.early) (λ first. IsSomeAnd (slice_get history writes.other.late) (λ second. Precedes first second)) c.forth in
+      let other_late = some_and (slice_get history writes.other.late) (λ second. Precedes early.0 second) early.2 in
+      let other_early = some_and (slice_get history writes.other.early) (λ first. IsSomeAnd (slice_get history writes.one.late) (λ second. Precedes first second)) c.back in
+      let late = some_and (slice_get history writes.one.late) (λ second. Precedes other_early.0 second) other_early.2 in
+      let e = step_at history steps are writes.one.early early.0 early.1 in
+      let l = step_at history steps are writes.one.late late.0 late.1 in
+      let oe = step_at history steps are writes.other.early other_early.0 other_early.1 in
+      let ol = step_at history steps are writes.other.late other_late.0 other_late.1 in
+      let a = e.2.end in
+      let b = ol.2.start in
+      let f = other_late.2 in
+      let d = oe.2.end in
+      let g = l.2.start in
+      let h = late.2 in
+      record {
+        write = refl;
+        apart = λ same. c.apart (sym same);
+        given = s.0;
+        other = t.0;
+        early = e.0;
+        late = l.0;
+        other_early = oe.0;
+        other_late = ol.0;
+        given_at = s.1;
+        other_at = t.1;
+        early_at = e.1;
+        late_at = l.1;
+        other_early_at = oe.1;
+        other_late_at = ol.1;
+        writing = subst IsWriting (sym t.2.kind) (writing_of w.0.act w.2.1);
+        key = alike.keys.1 (w.2.0 ∙ sym v.2.0);
+        early_goes = c.one_early;
+        late_goes = c.one_late;
+        other_early_goes = c.other_early;
+        other_late_goes = c.other_late;
+        forth = omega (arith, a, b, f);
+        back = omega (arith, d, g, h);
+      }
 
-    goes_if_back : (hit put q : ℕ) → GoesIfRead history hit put q → GoesIf owners.owners.items hit put q
-    goes_if_back hit put q goes = elim goes [
-      | inl same ↦ inl same
-      | inr with ↦ inr (goes_back put q with)
-    ]
+  pub open_back : (hit : ℕ) (reads : List CrossedWrites) → HasOpen steps owners hit → ¬ IsUnreadBy (Goes owners) history hit reads
+  open_back hit reads open_it is =
+      let r = open_it.reads in
+      let could = could_by history steps are hit open_it.put r.asked r.given r.asked_at r.given_at r.kind r.reads in
+      let listed = member_map (λ (writes : CrossedWrites). writes.one.write) reads open_it.put (member_contained (puts_in reads) open_it.put (is.all open_it.put could)) in
+      let crossed = crossed_back hit listed.0 (all_member (AreCrossedIfRead (Goes owners) history hit) reads listed.0 is.each listed.1) in
+      open_it.open_is listed.0 (subst (λ p. IsCrossedIf steps owners hit p listed.0) (sym listed.2) crossed)
 
-    crossed_back : (hit : ℕ) (writes : CrossedWrites) → AreCrossedIfRead history hit writes → IsCrossedIf steps owners.owners.items hit writes.one.write writes
-    crossed_back hit writes c =
-        let v = some_and (slice_get history writes.one.write) (λ write. Writes (deed_of write) c.key) c.one_writes in
-        let w = some_and (slice_get history writes.other.write) (λ write. Writes (deed_of write) c.key) c.other_writes in
-        let s = step_at history steps are writes.one.write v.0 v.1 in
-        let t = step_at history steps are writes.other.write w.0 w.1 in
-        let alike = are.alike writes.other.write writes.one.write w.0 v.0 t.0 s.0 w.1 v.1 t.1 s.1 in
-        let early = some_and (slice_get history writes.one.early) (λ first. IsSomeAnd (slice_get history writes.other.late) (λ second. Precedes first second)) c.forth in
-        let other_late = some_and (slice_get history writes.other.late) (λ second. Precedes early.0 second) early.2 in
-        let other_early = some_and (slice_get history writes.other.early) (λ first. IsSomeAnd (slice_get history writes.one.late) (λ second. Precedes first second)) c.back in
-        let late = some_and (slice_get history writes.one.late) (λ second. Precedes other_early.0 second) other_early.2 in
-        let e = step_at history steps are writes.one.early early.0 early.1 in
-        let l = step_at history steps are writes.one.late late.0 late.1 in
-        let oe = step_at history steps are writes.other.early other_early.0 other_early.1 in
-        let ol = step_at history steps are writes.other.late other_late.0 other_late.1 in
-        let a = e.2.end in
-        let b = ol.2.start in
-        let f = other_late.2 in
-        let d = oe.2.end in
-        let g = l.2.start in
-        let h = late.2 in
-        record {
-          write = refl;
-          apart = λ same. c.apart (sym same);
-          given = s.0;
-          other = t.0;
-          early = e.0;
-          late = l.0;
-          other_early = oe.0;
-          other_late = ol.0;
-          given_at = s.1;
-          other_at = t.1;
-          early_at = e.1;
-          late_at = l.1;
-          other_early_at = oe.1;
-          other_late_at = ol.1;
-          writing = subst IsWriting (sym t.2.kind) (writing_of w.0.act w.2.1);
-          key = alike.keys.1 (w.2.0 ∙ sym v.2.0);
-          early_goes = goes_if_back hit writes.one.write writes.one.early c.one_early;
-          late_goes = goes_if_back hit writes.one.write writes.one.late c.one_late;
-          other_early_goes = goes_back writes.other.write writes.other.early c.other_early;
-          other_late_goes = goes_back writes.other.write writes.other.late c.other_late;
-          forth = omega (arith, a, b, f);
-          back = omega (arith, d, g, h);
-        }
+  -- these are all hits of the history that would cross two writes whichever of several puts they read
+  pub unread_hits : (unsure : List ℕ) (found : List UnreadHit) → AreSure history owners → All (IsUnsure steps) unsure → ((hit : ℕ) → IsUnsure steps hit → Contains unsure hit) → AreUnreadOf steps owners unsure found → AreUnreadHits history found
+  unread_hits unsure found sure each all told =
+      let by_sure = all_from_at (λ (unread : UnreadHit). IsUnreadBy (Goes owners) history unread.hit unread.reads.items) found (λ k unread at.
+      is_unread unread.hit unread.reads.items (All-contains (IsUnsure steps) unsure unread.hit each (All-contains (Contains unsure) (unread_in found) unread.hit told.among (contains_at (unread_in found) k unread.hit (unread_at found k unread at)))) (all_at (λ (one : UnreadHit). IsUnreadIn steps owners one.hit one.reads.items) found k unread told.each at)) in
+      record {
+        owners = owners;
+        sure = sure;
+        each = All-weaker (λ (unread : UnreadHit). IsUnreadBy (Goes owners) history unread.hit unread.reads.items) (λ (unread : UnreadHit). IsUnread history unread.hit unread.reads.items) (λ unread is. unread_on unread.hit unread.reads.items is) found by_sure;
+        several = All-weaker (Contains unsure) (HasSeveral history) (λ hit listed. has_several history steps are hit (All-contains (IsUnsure steps) unsure hit each listed)) (unread_in found) told.among;
+        by_sure = by_sure;
+        all = λ hit reads several is. elim (told.all hit (all hit (several_of history steps are hit several))) [
+          | inl open_it ↦ absurd (open_back hit reads open_it is)
+          | inr listed ↦ listed
+        ];
+        order = pairs_from_at (IsEarlierBy (end_at history)) (unread_in found) (λ i j p q less one other.
+            ends_earlier history steps are p q (pair_at (IsEarlierBy (stamp_at End steps)) (unread_in found) i j p q told.order less one other));
+      }
 
-    open_back : (hit : ℕ) (reads : List CrossedWrites) → HasOpen steps owners.owners.items hit → ¬ IsUnread history hit reads
-    open_back hit reads open_it is =
-        let r = open_it.reads in
-        let could = could_by history steps are hit open_it.put r.asked r.given r.asked_at r.given_at r.kind r.reads in
-        let listed = member_map (λ (writes : CrossedWrites). writes.one.write) reads open_it.put (member_contained (puts_in reads) open_it.put (is.all open_it.put could)) in
-        let crossed = crossed_back hit listed.0 (all_member (AreCrossedIfRead history hit) reads listed.0 is.each listed.1) in
-        open_it.open_is listed.0 (subst (λ p. IsCrossedIf steps owners.owners.items hit p listed.0) (sym listed.2) crossed)
+-- such hits of known owners
+pub unread_known : (history : List Call) (steps : List NumberedCall) → AreSteps history steps → (owners : Owners) → AreKnownOwners steps (length steps) owners → (found : List UnreadHit) → AreUnreadOf steps owners.owners.items owners.unsure.items found → AreUnreadHits history found
+unread_known history steps are owners own found told =
+    unread_hits history steps are owners.owners.items (single_known steps owners own) owners.unsure.items found
+    (are_sure history steps are owners.owners.items own.count own.owned)
+    own.unsure.each
+    (λ hit is. own.unsure.all hit (slice_get_within steps hit is.step is.at) is)
+    told
 
-  pub no_unread : All (HasOpen steps owners.owners.items) owners.unsure.items → HasNoUnread history
-  no_unread open_all = λ some hit reads several is.
-      let unsure = several_of history steps are hit several in
-      let listed = own.unsure.all hit (slice_get_within steps hit unsure.step unsure.at) unsure in
-      open_back some hit reads (All-contains (HasOpen steps owners.owners.items) owners.unsure.items hit open_all listed) is
+-- ---- if each hit can have read a put, and no two writes are crossed
 
-pub found_unread : (history : List Call) (steps : List NumberedCall) → AreSteps history steps → (owners : Owners) → AreKnownOwners steps (length steps) owners → (found : Option UnreadHit) → IsUnreadAmong steps owners.owners.items owners.unsure.items found → IsFoundUnread history found
-found_unread history steps are owners own None open_all = no_unread history steps are owners own open_all
-found_unread history steps are owners own (Some unread) is = is_unread history steps are owners own unread.hit unread.reads.items (All-contains (IsUnsure steps) owners.unsure.items unread.hit own.unsure.each is.0) is.1
+module _ (history : List Call) (steps : List NumberedCall) (are : AreSteps history steps) (owners unsure : List ℕ) (own : AreSureOwners steps (length steps) owners unsure) (un : AreUncrossed steps owners) where
+  unread_back : (hit : ℕ) (reads : List CrossedWrites) → IsUnread history hit reads → IsUnreadBy (Goes owners) history hit reads
+  unread_back = unread_weaker (GoesWith history) (Goes owners) (goes_back history steps are owners unsure own) history
+
+  -- such a hit is listed
+  listed_unread : (found : List UnreadHit) → AreUnreadOf steps owners unsure found → (hit : ℕ) (reads : List CrossedWrites) → IsUnread history hit reads → Contains (unread_in found) hit
+  listed_unread found told hit reads is =
+      let unsure_is = several_of history steps are hit (unread_several history steps are owners unsure own (not_crossed history steps are owners unsure own un) hit reads is) in
+      elim (told.all hit (own.all hit (slice_get_within steps hit unsure_is.step unsure_is.at) unsure_is)) [
+        | inl open_it ↦ absurd (open_back history steps are owners (single_sure steps owners unsure own) hit reads open_it (unread_back hit reads is))
+        | inr listed ↦ listed
+      ]
+
+  -- none is listed, so there is none
+  pub none_unread : (found : List UnreadHit) → length found ≡ 0 → AreUnreadOf steps owners unsure found → (hit : ℕ) (reads : List CrossedWrites) → ¬ IsUnread history hit reads
+  none_unread found none told hit reads is =
+      let listed = listed_unread found told hit reads is in
+      let less : listed.0 < length (unread_in found) = listed.1 in
+      let count : length (unread_in found) ≡ length found = length-map found (λ (unread : UnreadHit). unread.hit) in
+      omega arith
+
+  -- the first one is told
+  pub found_unread : (found : List UnreadHit) (unread : UnreadHit) → slice_get found 0 ≡ Some unread → AreUnreadOf steps owners unsure found → AreForward history → IsFound history (Rejected (Unread unread))
+  found_unread found unread at told forward =
+      let single = single_sure steps owners unsure own in
+      let zero : slice_get (unread_in found) 0 ≡ Some unread.hit = unread_at found 0 unread at in
+      let is = all_at (λ (one : UnreadHit). IsUnreadIn steps owners one.hit one.reads.items) found 0 unread told.each at in
+      let unsure_is = All-contains (IsUnsure steps) unsure unread.hit own.are_unsure (all_at (Contains unsure) (unread_in found) 0 unread.hit told.among zero) in
+      record {
+        accepted = tt;
+        rejected = unread_on history steps are owners single unread.hit unread.reads.items (is_unread history steps are owners single unread.hit unread.reads.items unsure_is is);
+        first = record {
+          forward = forward;
+          some = some_read history steps are owners unsure own;
+          uncrossed = not_crossed history steps are owners unsure own un;
+          first = λ other reads other_is.
+              let k = index_of (unread_in found) other (listed_unread found told other reads other_is) in
+              elim (cases_eq k.0 0) [
+                | inl same ↦ inl (same_at (unread_in found) k.0 0 other unread.hit same k.1 zero)
+                | inr behind ↦ inr (ends_earlier history steps are unread.hit other (pair_at (IsEarlierBy (stamp_at End steps)) (unread_in found) 0 k.0 unread.hit other told.order (omega arith) zero k.1))
+              ];
+        };
+        undecided = tt;
+      }

@@ -5,14 +5,16 @@ use Rattle.trace_file.specs.declared.call.Call.{Call}
 use Rattle.certificate_finder.specs.declared.faults.CrossedWrites.{CrossedWrites}
 use Rattle.certificate_finder.specs.declared.faults.Faults.{Faults}
 use Rattle.certificate_finder.specs.declared.faults.WrongHit.{WrongHit}
+use Rattle.certificate_finder.specs.declared.unread_hit.UnreadHit.{UnreadHit}
 use Rattle.certificate_finder.specs.declared.witness.Side.{Side}
 use Rattle.certificate_finder.specs.Choosing.{IsEarlierBy}
 use Rattle.certificate_finder.specs.Finding.{IsReversed}
 use Rattle.certificate_finder.specs.Lists.{AreAllBelow}
-use Rattle.certificate_finder.specs.Reads.{HasNone}
+use Rattle.certificate_finder.specs.Reads.{HasNone, HasSeveral}
 use Rattle.certificate_finder.specs.Trying.{AreCrossedBy, AreSure}
 use Rattle.certificate_finder.specs.Turns.{end_at}
-use Rattle.certificate_finder.specs.Witnesses.{AreCrossed, ReadsNone}
+use Rattle.certificate_finder.specs.Witnesses.{AreCrossed, IsUnread, IsUnreadBy, ReadsNone}
+use Rattle.certificate_finder.specs.Zones.{Goes}
 
 -- the positions of some hits
 abbrev pub hits_in : List WrongHit → List ℕ
@@ -41,13 +43,29 @@ pub record AreCrossedWrites (history : List Call) (crossed : List CrossedWrites)
   pub all : (one other : Side) (writes : AreCrossedBy history owners one other) → Contains (keys_in history crossed) writes.key
   pub once : AllPairs (λ (one other : CrossedWrites). key_at history one.one.write ≢ key_at history other.one.write) crossed
 
+-- the positions of some hits
+abbrev pub unread_in : List UnreadHit → List ℕ
+unread_in hits = map (λ (unread : UnreadHit). unread.hit) hits
+
+-- these are all hits that can have read several puts, and would cross two writes whichever they read, by their ends: by the calls that go with each write, which are itself and the hits that can have read it alone
+pub record AreUnreadHits (history : List Call) (hits : List UnreadHit) : Type 0 where
+  pub owners : List ℕ
+  pub sure : AreSure history owners
+  pub each : All (λ (unread : UnreadHit). IsUnread history unread.hit unread.reads.items) hits
+  pub several : All (HasSeveral history) (unread_in hits)
+  pub by_sure : All (λ (unread : UnreadHit). IsUnreadBy (Goes owners) history unread.hit unread.reads.items) hits
+  pub all : (hit : ℕ) (reads : List CrossedWrites) → HasSeveral history hit → IsUnreadBy (Goes owners) history hit reads → Contains (unread_in hits) hit
+  pub order : AllPairs (IsEarlierBy (end_at history)) (unread_in hits)
+
 -- all faults but the calls that end before they start
 pub record AreFaultsBut (history : List Call) (faults : Faults) : Type 0 where
   pub hits : AreWrongHits history faults.hits.items
   pub crossed : AreCrossedWrites history faults.crossed.items
+  pub unread : AreUnreadHits history faults.unread.items
 
--- all that is wrong with a history: the calls that end before they start, the hits that can have read no put, and the crossed writes of each key
+-- all that is wrong with a history: the calls that end before they start, the hits that can have read no put, the crossed writes of each key, and the hits that would cross two writes whichever of several puts they read
 pub record AreFaults (history : List Call) (faults : Faults) : Type 0 where
   pub reversed : AreAllBelow (IsReversed history) (length history) faults.reversed.items
   pub hits : AreWrongHits history faults.hits.items
   pub crossed : AreCrossedWrites history faults.crossed.items
+  pub unread : AreUnreadHits history faults.unread.items

@@ -22,7 +22,6 @@ pub mod Steps
 pub mod Trees
 pub mod Trying
 pub mod Turns
-pub mod Unread
 pub mod Unreading
 pub mod WarmLaws
 pub mod WarmSteps

@@ -1,20 +1,20 @@
 -- Hits that would cross two writes whichever put they read, in numbers.
-use Rattle.std.specs.Prelude.{◌≡◌, ◌≢◌, ℕ, ◌<◌, ◌≤◌, ◌⊎◌, ◌++◌, ◌∷◌, [], List, All, Bool, true, false, Contains, IsTrue, MatchOption, Option, length, map, slice_get, Some}
+use Rattle.std.specs.Prelude.{◌≡◌, ◌≢◌, ℕ, ◌<◌, ◌≤◌, ◌⊎◌, ◌++◌, ◌∷◌, [], List, All, AllPairs, Bool, true, false, Contains, IsTrue, MatchOption, Option, length, map, slice_get, Some}
 use Rattle.std.specs.List.Sorted.{IsNonDecreasingBy}
 use Rattle.record_pages.specs.Expiry.{is_live}
-use Rattle.trace_file.specs.declared.call.Call.{Call}
 use Rattle.certificate_finder.specs.declared.by_ends.ByEnds.{ByEnds}
 use Rattle.certificate_finder.specs.declared.by_ends.Top.{Top}
 use Rattle.certificate_finder.specs.declared.faults.CrossedWrites.{CrossedWrites}
 use Rattle.certificate_finder.specs.declared.numbered_call.NumberedCall.{NumberedCall}
 use Rattle.certificate_finder.specs.declared.put.Put.{Put}
+use Rattle.certificate_finder.specs.declared.stamp.Stamp.TheVariants.{End}
 use Rattle.certificate_finder.specs.declared.unread_hit.UnreadHit.{UnreadHit}
 use Rattle.certificate_finder.specs.declared.witness.Side.{Side}
 use Rattle.certificate_finder.specs.declared.zone.Zone.{Zone}
+use Rattle.certificate_finder.specs.Choosing.{IsEarlierBy}
+use Rattle.certificate_finder.specs.Faults.{unread_in}
 use Rattle.certificate_finder.specs.Lists.{Lists}
-use Rattle.certificate_finder.specs.Offering.{ReadsIn}
-use Rattle.certificate_finder.specs.Reads.{HasNone, HasSeveral}
-use Rattle.certificate_finder.specs.Unread.{IsUnread}
+use Rattle.certificate_finder.specs.Offering.{ReadsIn, stamp_at}
 use Rattle.certificate_finder.specs.Writing.{Writing, key_rank}
 use Rattle.certificate_finder.specs.Zones.{AreDistinct, Goes, IsFitZone, TellsZone}
 
@@ -154,16 +154,20 @@ pub record HasOpen (steps : List NumberedCall) (owners : List ℕ) (hit : ℕ) :
   pub reads : ReadsIn steps hit put
   pub open_is : IsOpen steps owners hit put
 
--- of some hits one whose puts would all be crossed, or each has one that would not be
-abbrev pub IsUnreadAmong : List NumberedCall → List ℕ → List ℕ → Option UnreadHit → Type 0
-IsUnreadAmong steps owners hits found = MatchOption found (All (HasOpen steps owners) hits) (λ (unread : UnreadHit). Contains hits unread.hit × IsUnreadIn steps owners unread.hit unread.reads.items)
+-- a hit is one of those below an index
+abbrev pub IsBelow : List ℕ → ℕ → ℕ → Type 0
+IsBelow hits upto hit = (k : ℕ) × (k < upto) × (slice_get hits k ≡ Some hit)
 
--- ---- what is found
+-- of the hits below an index these are those whose puts would all be crossed, by their ends
+pub record AreUnreadUpto (steps : List NumberedCall) (owners hits : List ℕ) (upto : ℕ) (found : List UnreadHit) : Type 0 where
+  pub each : All (λ (unread : UnreadHit). IsUnreadIn steps owners unread.hit unread.reads.items) found
+  pub below : All (IsBelow hits upto) (unread_in found)
+  pub all : (hit : ℕ) → IsBelow hits upto hit → HasOpen steps owners hit ⊎ Contains (unread_in found) hit
+  pub order : AllPairs (IsEarlierBy (stamp_at End steps)) (unread_in found)
 
--- if each hit can have read a put, then each hit that can have read several has one that would not be crossed
-abbrev pub HasNoUnread : List Call → Type 0
-HasNoUnread history = ((hit : ℕ) → ¬ HasNone history hit) → (hit : ℕ) (reads : List CrossedWrites) → HasSeveral history hit → ¬ IsUnread history hit reads
-
--- a hit whose puts would all be crossed, or none of those that can have read several is such
-abbrev pub IsFoundUnread : List Call → Option UnreadHit → Type 0
-IsFoundUnread history found = MatchOption found (HasNoUnread history) (λ (unread : UnreadHit). IsUnread history unread.hit unread.reads.items)
+-- of these hits those whose puts would all be crossed, by their ends
+pub record AreUnreadOf (steps : List NumberedCall) (owners unsure : List ℕ) (found : List UnreadHit) : Type 0 where
+  pub each : All (λ (unread : UnreadHit). IsUnreadIn steps owners unread.hit unread.reads.items) found
+  pub among : All (Contains unsure) (unread_in found)
+  pub all : (hit : ℕ) → Contains unsure hit → HasOpen steps owners hit ⊎ Contains (unread_in found) hit
+  pub order : AllPairs (IsEarlierBy (stamp_at End steps)) (unread_in found)

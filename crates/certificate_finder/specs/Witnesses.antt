@@ -9,6 +9,7 @@ use Rattle.certificate_checker.specs.Orders.{Precedes}
 use Rattle.certificate_finder.specs.declared.excluded.Excluded.{Excluded}
 use Rattle.certificate_finder.specs.declared.excluded.Excuse.{Excuse}
 use Rattle.certificate_finder.specs.declared.excluded.Excuse.TheVariants.{Later, Expired, Replaced}
+use Rattle.certificate_finder.specs.declared.faults.CrossedWrites.{CrossedWrites}
 use Rattle.certificate_finder.specs.declared.witness.Side.{Side}
 use Rattle.certificate_finder.specs.declared.witness.Witness.{Witness}
 use Rattle.certificate_finder.specs.declared.witness.Witness.TheVariants as witnesses
@@ -62,8 +63,45 @@ pub record AreCrossed (history : List Call) (one other : Side) : Type 0 where
   pub first : IsSide history key one other
   pub second : IsSide history key other one
 
+-- the call at a position precedes that at another one
+abbrev pub PrecedesAt : List Call → ℕ → ℕ → Type 0
+PrecedesAt history one other = IsSomeAnd (slice_get history one) (λ first. IsSomeAnd (slice_get history other) (λ second. Precedes first second))
+
+-- the call at a position goes with the put at another one, if a hit read that put: it is the hit, or goes with the put anyway
+abbrev pub GoesIfRead : (ℕ → ℕ → Type 0) → ℕ → ℕ → ℕ → Type 0
+GoesIfRead goes hit put call = (call ≡ hit) ⊎ goes put call
+
+-- if a hit read the first of these writes, each of the two would have to stand before the other, by the calls that go with each
+pub record AreCrossedIfRead (goes : ℕ → ℕ → Type 0) (history : List Call) (hit : ℕ) (writes : CrossedWrites) : Type 0 where
+  pub key : List ℕ
+  pub apart : writes.one.write ≢ writes.other.write
+  pub one_writes : IsSomeAnd (slice_get history writes.one.write) (λ write. Writes (deed_of write) key)
+  pub other_writes : IsSomeAnd (slice_get history writes.other.write) (λ write. Writes (deed_of write) key)
+  pub one_early : GoesIfRead goes hit writes.one.write writes.one.early
+  pub one_late : GoesIfRead goes hit writes.one.write writes.one.late
+  pub other_early : goes writes.other.write writes.other.early
+  pub other_late : goes writes.other.write writes.other.late
+  pub forth : PrecedesAt history writes.one.early writes.other.late
+  pub back : PrecedesAt history writes.other.early writes.one.late
+
+-- the hit at a position read none of its puts: these are all that it can have read, each with a write with which it is crossed if the hit read it, by the calls that go with each
+pub record IsUnreadBy (goes : ℕ → ℕ → Type 0) (history : List Call) (hit : ℕ) (reads : List CrossedWrites) : Type 0 where
+  pub call : Call
+  pub value : List ℕ
+  pub moment : ℕ
+  pub at : slice_get history hit ≡ Some call
+  pub is : call.act ≡ Hit value moment
+  pub each : All (AreCrossedIfRead goes history hit) reads
+  pub only : All (λ (writes : CrossedWrites). CouldRead history hit writes.one.write) reads
+  pub all : (put : ℕ) → CouldRead history hit put → Contains (map (λ (writes : CrossedWrites). writes.one.write) reads) put
+
+-- the same by the write itself and the hits that can have read no other put
+abbrev pub IsUnread : List Call → ℕ → List CrossedWrites → Type 0
+IsUnread history hit reads = IsUnreadBy (GoesWith history) history hit reads
+
 -- this is a reason why a history is accepted with no certificate
 abbrev pub IsWitness : List Call → Witness → Type 0
 IsWitness history (witnesses.Interval position) = IsSomeAnd (slice_get history position) (λ call. call.end < call.start)
 IsWitness history (witnesses.Hit hit puts) = ReadsNone history hit puts.items
 IsWitness history (witnesses.Crossed one other) = AreCrossed history one other
+IsWitness history (witnesses.Unread unread) = IsUnread history unread.hit unread.reads.items

@@ -87,6 +87,12 @@ pub record AreCrossedAt (zones : List Zone) (key : ℕ) : Type 0 where
 abbrev pub FollowOn : Zone → Zone → Type 0
 FollowOn earlier later = earlier.key ≡ later.key → earlier.start ≤ later.end
 
+-- no two writes are crossed, if the calls have these owners
+pub record AreUncrossed (steps : List NumberedCall) (owners : List ℕ) : Type 0 where
+  pub zones : List Zone
+  pub are_zones : AreZones steps owners zones
+  pub follow : AllPairs FollowOn zones
+
 -- of each key that has crossed zones two of them, by keys
 pub record AreCrossings (zones : List Zone) (crossings : List Crossing) : Type 0 where
   pub each : All (AreCrossing zones) crossings

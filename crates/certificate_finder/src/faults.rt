@@ -1,5 +1,6 @@
 // All that is wrong with a history.
 use crate::excluded::Excluded;
+use crate::unread_hit::UnreadHit;
 use crate::witness::Side;
 
 /// A hit that can have read no put of its key and value.
@@ -29,4 +30,7 @@ pub struct Faults {
     pub hits: Vec<WrongHit>,
     /// Of each key that has crossed writes two of them.
     pub crossed: Vec<CrossedWrites>,
+    /// The hits that several puts fit, and that would cross two writes whichever of them they read, by their ends, those of one end in
+    /// the order of the history.
+    pub unread: Vec<UnreadHit>,
 }

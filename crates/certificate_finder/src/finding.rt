@@ -1,11 +1,13 @@
 // Finding a certificate for a history that brings none.
-ghost use Rattle.std.specs.Prelude.{◌<◌, ◌^◌, List, All, IfOk, length};
+ghost use Rattle.std.specs.Prelude.{◌≢◌, ◌<◌, ◌^◌, List, [], All, IfOk, length};
 ghost use Rattle.trace_file.specs.declared.call.Call.{Call};
 ghost use Rattle.certificate_checker.specs.Acceptance.{IsAccepted};
 ghost use Rattle.certificate_finder.specs.Finding.{AreForward, AreUndecided, IfAccepted, IfRejected, IfUndecided, IsFound, IsToldFirst};
 ghost use Rattle.certificate_finder.specs.Owning.{AreSureOwners};
+ghost use Rattle.certificate_finder.specs.Putting.{ArePuts};
 ghost use Rattle.certificate_finder.specs.Steps.{AreSteps, IsFit};
 ghost use Rattle.certificate_finder.specs.Witnesses.{IsWitness};
+ghost use Rattle.certificate_finder.specs.Zones.{AreUncrossed};
 
 use crate::crossing::crossing_at;
 use crate::crossings::crossings_of;
@@ -19,8 +21,10 @@ use crate::numbered_call::NumberedCall;
 use crate::numbering::steps_of;
 use crate::numbers::number_at;
 use crate::owning::Owners;
+use crate::put::Put;
 use crate::ranked::ranked_at;
 use crate::reversed::reversed_of;
+use crate::unread::unread_hits_of;
 use crate::witness::Witness;
 use crate::zoning::zones_of;
 use std::alloc::{AllocError, Global};
@@ -34,12 +38,14 @@ pub const MAX_CALLS: usize = 2147483647;
 ///
 /// A history that has several reasons is told of the first call that ends before it starts. If there is none, it is told of
 /// the hit that can have read no put and ends first, or of those that end at one stamp the first one in the history. It is told
-/// of crossed writes only if it has neither. `find_faults` lists all.
+/// of crossed writes only if it has neither. It is told of a hit that several puts fit, and that would cross two writes whichever of them
+/// it read, only if it has nothing else and no rule gives a certificate: of the one that ends first. `find_faults` lists all.
 ///
 /// A hit can have read a put of its key and value that began before the hit ended and had not expired at its moment,
 /// and after which no write of the key lies that ended before the hit began. If each hit can have read at most one, it
 /// is decided. Otherwise five rules choose a put for each other hit, one rule after the other. Each key takes the first one by
-/// whose choice no two of its writes each have to stand before the other, until each key has one.
+/// whose choice no two of its writes each have to stand before the other, until each key has one. If a key has none, each such hit is
+/// looked at: nothing is decided only if it can have read a put without crossing it with another write.
 ///
 /// Its time is `n log n` for `n` calls if the keys and values were not picked to be slow: the map that it numbers them
 /// by hashes them by a seed that anyone can read. Whoever judges a stranger's history calls `find_with_hasher`. Each
@@ -106,16 +112,22 @@ fn found_of(alloc: Global, steps: &[NumberedCall]) -> Result<Found, AllocError>
         let excluded = excluded_of(alloc, steps, puts.as_slice(), first.position)?;
         return Ok(Found::Rejected(Witness::Hit(first.position, excluded)));
     }
-    match arranged(alloc, steps, owners) {
+    match arranged(alloc, steps, puts.as_slice(), owners) {
         Ok(found) => Ok(found),
         Err(refused) => Err(refused),
     }
 }
 
 /// What is found if each call has its owner.
-fn arranged(alloc: Global, steps: &[NumberedCall], owners: Owners) -> Result<Found, AllocError>
+fn arranged(
+    alloc: Global,
+    steps: &[NumberedCall],
+    puts: &[Put],
+    owners: Owners,
+) -> Result<Found, AllocError>
     requires few { length steps.now < 2 ^ 31 }
     requires fit { All IsFit steps.now }
+    requires puts { ArePuts steps.now puts.now }
     requires owners { AreSureOwners steps.now (length steps.now) owners.owners.items owners.unsure.items }
     ensures { IfOk result (λ found. (history : List Call) → AreSteps history steps.now
         → AreForward history → IsFound history found) }
@@ -131,13 +143,43 @@ fn arranged(alloc: Global, steps: &[NumberedCall], owners: Owners) -> Result<Fou
         return Ok(Found::Rejected(first.witness()));
     }
     let doubtful = unsure.as_slice();
-    if !doubtful.is_empty() {
-        let by_rules = certificate_by_rules(alloc, steps, owned, doubtful)?;
-        if let Some(certificate) = by_rules {
-            return Ok(Found::Accepted(certificate));
-        }
+    if doubtful.is_empty() {
+        let certificate = certificate_by_zones(alloc, steps, owned, listed)?;
+        return Ok(Found::Accepted(certificate));
+    }
+    match chosen(alloc, steps, puts, owned, unsure) {
+        Ok(found) => Ok(found),
+        Err(refused) => Err(refused),
+    }
+}
+
+/// What is found if hits can have read several puts, and no two writes are crossed without them.
+fn chosen(
+    alloc: Global,
+    steps: &[NumberedCall],
+    puts: &[Put],
+    owners: &[u32],
+    unsure: Vec<u32>,
+) -> Result<Found, AllocError>
+    requires few { length steps.now < 2 ^ 31 }
+    requires fit { All IsFit steps.now }
+    requires puts { ArePuts steps.now puts.now }
+    requires owners { AreSureOwners steps.now (length steps.now) owners.now unsure.items }
+    requires some { unsure.items ≢ [] }
+    requires uncrossed { AreUncrossed steps.now owners.now }
+    ensures { IfOk result (λ found. (history : List Call) → AreSteps history steps.now
+        → AreForward history → IsFound history found) }
+{
+    let doubtful = unsure.as_slice();
+    let by_rules = certificate_by_rules(alloc, steps, owners, doubtful)?;
+    if let Some(certificate) = by_rules {
+        return Ok(Found::Accepted(certificate));
+    }
+    let mut unread = unread_hits_of(alloc, steps, puts, owners, doubtful)?;
+    let listed = unread.as_slice();
+    if listed.is_empty() {
         return Ok(Found::Undecided(unsure));
     }
-    let certificate = certificate_by_zones(alloc, steps, owned, listed)?;
-    Ok(Found::Accepted(certificate))
+    let first = unread.swap_remove(0);
+    Ok(Found::Rejected(Witness::Unread(first)))
 }

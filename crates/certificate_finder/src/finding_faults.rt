@@ -11,18 +11,20 @@ use crate::hits::hit_reads_of;
 use crate::numbered_call::NumberedCall;
 use crate::numbering::steps_of;
 use crate::reversed::reversed_of;
+use crate::unread::unread_hits_of;
 use crate::wrong_hits::wrong_hits_of;
 use std::alloc::{AllocError, Global};
 use std::hash::{BuildHasher, BuildHasherDefault, FoldHasher};
 use trace_file::History;
 
 /// Finds all that is wrong with a history: each call that ends before it starts, each hit that can have read no put with what
-/// excludes its puts, and two crossed writes of each key that has such.
+/// excludes its puts, two crossed writes of each key that has such, and each hit that several puts fit and that would cross two writes
+/// whichever of them it read.
 ///
 /// The hits come by their ends, those of one end in the order of the history. Writes are crossed by themselves and by the hits that
-/// can have read one put alone. A history in which nothing is listed may still have no order, if a hit can have read several puts:
-/// `find` says so. Its time and memory are those of `find`, and for each hit that is listed a step and 12 bytes for each put of its
-/// key and value. `AllocError` comes if memory was refused, and if there are more than `MAX_CALLS` calls.
+/// can have read one put alone. A hit whose puts are crossed without it is listed too. A history in which nothing is listed may still
+/// have no order, if a hit can have read several puts: `find` says so. Its time and memory are those of `find`, and for each hit that
+/// is listed a step and 12 bytes for each put of its key and value, or 24 bytes for each put that it can have read. `AllocError` comes if memory was refused, and if there are more than `MAX_CALLS` calls.
 pub fn find_faults(alloc: Global, history: &History) -> Result<Faults, AllocError>
     ensures { IfOk result (AreFaults history.now) }
 {
@@ -65,12 +67,17 @@ fn faults_of(
         → AreFaultsBut history faults) }
 {
     let reads = hit_reads_of(alloc, steps)?;
+    let puts = reads.puts.as_slice();
+    let owned = reads.owners.owners.as_slice();
     let wrong = reads.wrong.as_slice();
-    let hits = wrong_hits_of(alloc, steps, reads.puts.as_slice(), wrong)?;
-    let crossed = crossed_of(alloc, steps, reads.owners.owners.as_slice())?;
+    let hits = wrong_hits_of(alloc, steps, puts, wrong)?;
+    let crossed = crossed_of(alloc, steps, owned)?;
+    let doubtful = reads.owners.unsure.as_slice();
+    let unread = unread_hits_of(alloc, steps, puts, owned, doubtful)?;
     Ok(Faults {
         reversed,
         hits,
         crossed,
+        unread,
     })
 }

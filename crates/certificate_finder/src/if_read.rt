@@ -1,10 +1,13 @@
 // What would be crossed if a hit read a put.
-ghost use Rattle.std.specs.Prelude.{◌≡◌, ◌<◌, ◌^◌, All, IfOk, MatchOption, length};
-ghost use Rattle.certificate_finder.specs.Offering.{AreGroups, AreLinks};
+ghost use Rattle.std.specs.Prelude.{◌≡◌, ◌<◌, ◌^◌, All, AllPairs, IfOk, MatchOption, length};
+ghost use Rattle.certificate_finder.specs.Choosing.{IsEarlierBy};
+ghost use Rattle.certificate_finder.specs.declared.stamp.Stamp.TheVariants.{End};
+ghost use Rattle.certificate_finder.specs.Lining.{positions_in};
+ghost use Rattle.certificate_finder.specs.Offering.{AreGroups, AreLinks, stamp_at};
 ghost use Rattle.certificate_finder.specs.Owning.{IsUnsure};
 ghost use Rattle.certificate_finder.specs.Putting.{ArePuts};
 ghost use Rattle.certificate_finder.specs.Steps.{IsFit};
-ghost use Rattle.certificate_finder.specs.Unreading.{AreByEnds, HasOpen, IsCrossedIf, IsLookedAt, IsOpen, IsUnreadAmong, IsUnreadIn};
+ghost use Rattle.certificate_finder.specs.Unreading.{AreByEnds, AreUnreadUpto, HasOpen, IsCrossedIf, IsLookedAt, IsOpen, IsUnreadIn};
 
 use crate::by_ends::{ByEnds, last_other};
 use crate::faults::CrossedWrites;
@@ -13,6 +16,7 @@ use crate::numbered_call::{NumberedCall, step_at};
 use crate::numbers::number_at;
 use crate::put::{Put, put_at, value_rank};
 use crate::puts::puts_upto;
+use crate::ranked::{Ranked, ranked_at};
 use crate::unread_hit::UnreadHit;
 use record_pages::is_live;
 use std::alloc::{AllocError, Global};
@@ -118,7 +122,7 @@ fn crossed_reads(
     Ok(Some(reads))
 }
 
-/// The first of these hits whose puts would all be crossed.
+/// Those of these hits whose puts would all be crossed, in their order.
 pub(crate) fn unread_among(
     alloc: Global,
     steps: &[NumberedCall],
@@ -126,22 +130,24 @@ pub(crate) fn unread_among(
     links: &[u32],
     groups: &Groups,
     by_ends: &ByEnds,
-    hits: &[u32],
-) -> Result<Option<UnreadHit>, AllocError>
+    hits: &[Ranked],
+) -> Result<Vec<UnreadHit>, AllocError>
     requires fit { All IsFit steps.now }
     requires puts { ArePuts steps.now puts.now }
     requires links { AreLinks puts.now links.now }
     requires groups { AreGroups steps.now groups.now }
     requires by_ends { AreByEnds steps.now groups.now.owners.items by_ends.now }
-    requires unsure { All (IsUnsure steps.now) hits.now }
-    ensures { IfOk result (IsUnreadAmong steps.now groups.now.owners.items hits.now) }
+    requires unsure { All (IsUnsure steps.now) (positions_in hits.now) }
+    requires order { AllPairs (IsEarlierBy (stamp_at End steps.now)) (positions_in hits.now) }
+    ensures { IfOk result (λ found. AreUnreadUpto steps.now groups.now.owners.items (positions_in hits.now) (length hits.now) found.items) }
 {
+    let mut found = Vec::new(alloc);
     for index in 0..hits.len() {
-        let hit = number_at(hits, index);
+        let hit = ranked_at(hits, index).position;
         let listed = crossed_reads(alloc, steps, puts, links, groups, by_ends, hit)?;
         if let Some(reads) = listed {
-            return Ok(Some(UnreadHit { hit, reads }));
+            found.push(UnreadHit { hit, reads })?;
         }
     }
-    Ok(None)
+    Ok(found)
 }

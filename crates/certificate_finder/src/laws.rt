@@ -1,16 +1,10 @@
 // Laws of the definitions.
 ghost use Rattle.certificate_finder.specs.Laws.{WitnessExcludes, LawfulByKeys, SortedSpotsAreAccepted};
-ghost use Rattle.certificate_finder.specs.Unread.{UnreadExcludes};
 ghost use Rattle.certificate_finder.specs.WarmLaws.{AcceptedStaysCold, KeysAreWarmedOnce, PastStaysAccepted, StaleStaysWrong};
 
 /// A history that has a witness is accepted with no certificate.
 pub fn witness_excludes()
     ensures { WitnessExcludes }
-{}
-
-/// A history with a hit that would cross two writes whichever put it read is accepted with no certificate.
-pub fn unread_excludes()
-    ensures { UnreadExcludes }
 {}
 
 /// Deeds are lawful exactly if those of each key are, without its misses.

@@ -17,7 +17,6 @@ mod excuses;
 mod faults;
 mod finding;
 mod finding_faults;
-mod finding_unread;
 mod flags;
 mod found;
 mod groups;
@@ -50,6 +49,7 @@ mod stamp;
 mod tree;
 mod tree_shape;
 mod unput;
+mod unread;
 mod unread_hit;
 mod warm_hits;
 mod warmed;
@@ -65,11 +65,10 @@ pub use excluded::{Excluded, Excuse};
 pub use faults::{CrossedWrites, Faults, WrongHit};
 pub use finding::{MAX_CALLS, find, find_with_hasher};
 pub use finding_faults::{find_faults, find_faults_with_hasher};
-pub use finding_unread::{find_unread, find_unread_with_hasher};
 pub use found::Found;
 pub use laws::{
     accepted_stays_cold, keys_are_warmed_once, lawful_by_keys, past_stays_accepted,
-    sorted_spots_are_accepted, stale_stays_wrong, unread_excludes, witness_excludes,
+    sorted_spots_are_accepted, stale_stays_wrong, witness_excludes,
 };
 pub use unread_hit::UnreadHit;
 pub use warmed::Warmed;

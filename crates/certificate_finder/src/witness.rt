@@ -1,5 +1,6 @@
 // Why a history has no certificate.
 use crate::excluded::Excluded;
+use crate::unread_hit::UnreadHit;
 
 /// A write of a key, and two calls that go with it: each is the write itself, or a hit that can have read no other put.
 #[derive(Clone, Copy, Debug, PartialEq, Eq)]
@@ -21,4 +22,6 @@ pub enum Witness {
     Hit(u32, Vec<Excluded>),
     /// Two writes of a key, each of which has to stand before the other.
     Crossed(Side, Side),
+    /// A hit that can have read several puts, and read none: whichever it read, two writes of its key would be crossed.
+    Unread(UnreadHit),
 }

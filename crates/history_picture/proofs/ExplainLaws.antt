@@ -15,7 +15,7 @@ use Rattle.history_picture.proofs.Marking.{few_marks}
 use Rattle.history_picture.proofs.PlainTexts.{plain_explanation}
 
 -- the marks are few enough to be shown
-pub room_for_marks : (reason : Reason) (marks : List ℕ) (most : ℕ) → marks ≡ marks_of reason → 17 ≤ most → length marks ≤ most
+pub room_for_marks : (reason : Reason) (marks : List ℕ) (most : ℕ) → marks ≡ marks_of reason → 19 ≤ most → length marks ≤ most
 room_for_marks reason marks most is room = subst (λ m. length m ≤ most) (sym is) (omega (arith, few_marks reason))
 
 -- a sentence and the lines of what is shown are an explanation

@@ -13,6 +13,7 @@ use Rattle.trace_file.specs.declared.call.Call.{Call}
 use Rattle.certificate_finder.specs.declared.excluded.Excluded.{Excluded}
 use Rattle.certificate_finder.specs.declared.excluded.Excuse.{Excuse}
 use Rattle.certificate_finder.specs.declared.excluded.Excuse.TheVariants.{Later, Expired, Replaced}
+use Rattle.certificate_finder.specs.declared.faults.CrossedWrites.{CrossedWrites}
 use Rattle.certificate_finder.specs.declared.witness.Side.{Side}
 use Rattle.history_picture.specs.declared.latest.Latest.{Latest}
 use Rattle.history_picture.specs.declared.latest.Latest.TheVariants as latests
@@ -24,7 +25,7 @@ use Rattle.history_picture.specs.Escaping.{escape_of}
 use Rattle.history_picture.specs.Naming.{label_words, label_of, act_words, call_words, name_of, start_of, end_of, moment_of}
 use Rattle.history_picture.specs.Plain.{IsPlain, is_plain}
 use Rattle.history_picture.specs.Rows.{label_number, left, right, never_ended, column, bar_between, bar_text, end_words, caller_words, act_name, value_words, mark_words, times_text, front_text, back_text, line_of, row_text}
-use Rattle.history_picture.specs.Sentences.{order_words, replaced_words, expired_words, excuse_words, hit_kind, also_words, lone_words, hit_words, crossed_words, interval_words, out_of_order_words, latest_words, wrong_hit_words, repeated_words, sentence_of}
+use Rattle.history_picture.specs.Sentences.{order_words, replaced_words, expired_words, excuse_words, hit_kind, also_words, lone_words, hit_words, crossed_words, interval_words, out_of_order_words, latest_words, wrong_hit_words, repeated_words, read_words, unread_words, sentence_of}
 use Rattle.history_picture.proofs.PlainLaws.{plain_lit, plain_nil, plain_append, plain_cons, plain_take, plain_replicate, plain_flat_map, glyph_plain, plain_decimal}
 
 -- the same text is plain
@@ -156,6 +157,16 @@ unfolding crossed_words
 plain_crossed history lines one other =
     plain_append (name_of history lines one.write) _ (plain_name history lines one.write) (plain_append (codes " and ") _ (plain_lit (codes " and ") refl) (plain_append (name_of history lines other.write) _ (plain_name history lines other.write) (plain_append (codes " have no order: ") _ (plain_lit (codes " have no order: ") refl) (plain_append (order_words history lines one.early other.late) _ (plain_order history lines one.early other.late) (plain_append (codes ", so the first has to stand before the second; and ") _ (plain_lit (codes ", so the first has to stand before the second; and ") refl) (plain_append (order_words history lines other.early one.late) _ (plain_order history lines other.early one.late) (plain_lit (codes ", so the second has to stand before the first") refl)))))))
 
+pub plain_read : (history : List Call) (lines : List ℕ) (writes : CrossedWrites) → IsPlain (read_words history lines writes)
+unfolding read_words
+plain_read history lines writes =
+    plain_append (codes "; if it read ") _ (plain_lit (codes "; if it read ") refl) (plain_append (name_of history lines writes.one.write) _ (plain_name history lines writes.one.write) (plain_append (codes ", ") _ (plain_lit (codes ", ") refl) (plain_append (order_words history lines writes.one.early writes.other.late) _ (plain_order history lines writes.one.early writes.other.late) (plain_append (codes ", so that put has to stand before ") _ (plain_lit (codes ", so that put has to stand before ") refl) (plain_append (name_of history lines writes.other.write) _ (plain_name history lines writes.other.write) (plain_append (codes "; and ") _ (plain_lit (codes "; and ") refl) (plain_append (order_words history lines writes.other.early writes.one.late) _ (plain_order history lines writes.other.early writes.one.late) (plain_append (codes ", so ") _ (plain_lit (codes ", so ") refl) (plain_append (name_of history lines writes.other.write) _ (plain_name history lines writes.other.write) (plain_lit (codes " has to stand before that put") refl))))))))))
+
+pub plain_unread : (history : List Call) (lines : List ℕ) (hit : ℕ) (reads : List CrossedWrites) → IsPlain (unread_words history lines hit reads)
+unfolding unread_words
+plain_unread history lines hit reads =
+    plain_append (name_of history lines hit) _ (plain_name history lines hit) (plain_append (codes " fits ") _ (plain_lit (codes " fits ") refl) (plain_append (decimal (length reads)) _ (plain_decimal (length reads)) (plain_append (codes " puts, and whichever of them it read, two writes would have no order") _ (plain_lit (codes " puts, and whichever of them it read, two writes would have no order") refl) (plain_flat_map (read_words history lines) (take 3 reads) (plain_read history lines)))))
+
 pub plain_interval : (history : List Call) (lines : List ℕ) (position : ℕ) → IsPlain (interval_words history lines position)
 unfolding interval_words
 plain_interval history lines position =
@@ -186,6 +197,7 @@ pub plain_sentence : (history : List Call) (lines : List ℕ) (reason : Reason) 
 plain_sentence history lines (reasons.Interval position) = plain_interval history lines position
 plain_sentence history lines (reasons.Hit hit puts) = plain_hit history lines hit puts.items
 plain_sentence history lines (reasons.Crossed one other) = plain_crossed history lines one other
+plain_sentence history lines (reasons.Unread unread) = plain_unread history lines unread.hit unread.reads.items
 plain_sentence history lines (reasons.OutOfOrder place call earlier) = plain_out_of_order history lines place call earlier
 plain_sentence history lines (reasons.WrongHit place hit latest) = plain_wrong_hit history lines place hit latest
 plain_sentence history lines (reasons.Repeated place position) = plain_repeated history lines place position

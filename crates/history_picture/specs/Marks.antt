@@ -1,9 +1,10 @@
 -- The calls that matter for a reason.
-use Rattle.std.specs.Prelude.{ℕ, List, [], ◌∷◌, take}
+use Rattle.std.specs.Prelude.{ℕ, List, [], ◌∷◌, ◌++◌, take}
 use Rattle.std.specs.List.{flat_map}
 use Rattle.certificate_finder.specs.declared.excluded.Excluded.{Excluded}
 use Rattle.certificate_finder.specs.declared.excluded.Excuse.{Excuse}
 use Rattle.certificate_finder.specs.declared.excluded.Excuse.TheVariants.{Later, Expired, Replaced}
+use Rattle.certificate_finder.specs.declared.faults.CrossedWrites.{CrossedWrites}
 use Rattle.certificate_finder.specs.declared.witness.Side.{Side}
 use Rattle.history_picture.specs.declared.latest.Latest.{Latest}
 use Rattle.history_picture.specs.declared.latest.Latest.TheVariants as latests
@@ -25,15 +26,24 @@ latest_marks latests.Nothing = []
 latest_marks (latests.Other write) = write ∷ []
 latest_marks (latests.Expired put) = put ∷ []
 
+-- the calls of a side
+abbrev pub side_marks : Side → List ℕ
+side_marks side = side.early ∷ side.write ∷ side.late ∷ []
+
 -- the calls of two crossed sides
 abbrev pub crossed_marks : Side → Side → List ℕ
-crossed_marks one other = one.early ∷ one.write ∷ one.late ∷ other.early ∷ other.write ∷ other.late ∷ []
+crossed_marks one other = side_marks one ++ side_marks other
+
+-- a put that would be crossed, and the write with which it would be, with the calls that show it
+abbrev pub read_marks : CrossedWrites → List ℕ
+read_marks writes = crossed_marks writes.one writes.other
 
 -- the positions of the calls that matter, the one at the place first
 abbrev pub marks_of : Reason → List ℕ
 marks_of (reasons.Interval position) = position ∷ []
 marks_of (reasons.Hit hit puts) = hit ∷ flat_map excluded_marks (take 8 puts.items)
 marks_of (reasons.Crossed one other) = crossed_marks one other
+marks_of (reasons.Unread unread) = unread.hit ∷ flat_map read_marks (take 3 unread.reads.items)
 marks_of (reasons.OutOfOrder place call earlier) = call ∷ earlier ∷ []
 marks_of (reasons.WrongHit place hit latest) = hit ∷ latest_marks latest
 marks_of (reasons.Repeated place position) = position ∷ []

@@ -9,3 +9,4 @@ abbrev pub reason_of : Witness → Reason
 reason_of (witnesses.Interval position) = reasons.Interval position
 reason_of (witnesses.Hit hit puts) = reasons.Hit hit puts
 reason_of (witnesses.Crossed one other) = reasons.Crossed one other
+reason_of (witnesses.Unread unread) = reasons.Unread unread

@@ -6,6 +6,7 @@ use Rattle.trace_file.specs.declared.call.Call.{Call}
 use Rattle.certificate_finder.specs.declared.excluded.Excluded.{Excluded}
 use Rattle.certificate_finder.specs.declared.excluded.Excuse.{Excuse}
 use Rattle.certificate_finder.specs.declared.excluded.Excuse.TheVariants.{Later, Expired, Replaced}
+use Rattle.certificate_finder.specs.declared.faults.CrossedWrites.{CrossedWrites}
 use Rattle.certificate_finder.specs.declared.witness.Side.{Side}
 use Rattle.history_picture.specs.Naming.{name_of, start_of, end_of, moment_of}
 use Rattle.history_picture.specs.declared.latest.Latest.{Latest}
@@ -67,6 +68,19 @@ crossed_words history lines one other =
     ++ (order_words history lines one.early other.late ++ (codes ", so the first has to stand before the second; and "
     ++ (order_words history lines other.early one.late ++ codes ", so the second has to stand before the first"))))))
 
+-- with which write a put would have no order, if a hit read it
+unfoldable pub read_words : List Call → List ℕ → CrossedWrites → List ℕ
+read_words history lines writes =
+    codes "; if it read " ++ (name_of history lines writes.one.write ++ (codes ", " ++ (order_words history lines writes.one.early writes.other.late
+    ++ (codes ", so that put has to stand before " ++ (name_of history lines writes.other.write ++ (codes "; and " ++ (order_words history lines writes.other.early writes.one.late
+    ++ (codes ", so " ++ (name_of history lines writes.other.write ++ codes " has to stand before that put")))))))))
+
+-- a hit that would cross two writes whichever put it read: of several, what shows it for the first three
+unfoldable pub unread_words : List Call → List ℕ → ℕ → List CrossedWrites → List ℕ
+unread_words history lines hit reads =
+    name_of history lines hit ++ (codes " fits " ++ (decimal (length reads) ++ (codes " puts, and whichever of them it read, two writes would have no order"
+    ++ flat_map (read_words history lines) (take 3 reads))))
+
 -- a call that ends before it starts
 unfoldable pub interval_words : List Call → List ℕ → ℕ → List ℕ
 interval_words history lines position =
@@ -101,6 +115,7 @@ abbrev pub sentence_of : List Call → List ℕ → Reason → List ℕ
 sentence_of history lines (reasons.Interval position) = interval_words history lines position
 sentence_of history lines (reasons.Hit hit puts) = hit_words history lines hit puts.items
 sentence_of history lines (reasons.Crossed one other) = crossed_words history lines one other
+sentence_of history lines (reasons.Unread unread) = unread_words history lines unread.hit unread.reads.items
 sentence_of history lines (reasons.OutOfOrder place call earlier) = out_of_order_words history lines place call earlier
 sentence_of history lines (reasons.WrongHit place hit latest) = wrong_hit_words history lines place hit latest
 sentence_of history lines (reasons.Repeated place position) = repeated_words history lines place position

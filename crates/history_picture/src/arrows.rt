@@ -1,11 +1,11 @@
 // Which call precedes which, if that matters.
 ghost use Rattle.std.specs.Prelude.{◌≡◌, ◌++◌, IfOk, OnOk, take};
 ghost use Rattle.std.specs.List.{flat_map};
-ghost use Rattle.history_picture.specs.Arrows.{arrows_of, crossed_arrows, excluded_arrows};
+ghost use Rattle.history_picture.specs.Arrows.{arrows_of, crossed_arrows, excluded_arrows, read_arrows};
 
-use crate::marks::first_eight;
+use crate::marks::{first_eight, first_three};
 use crate::reason::Reason;
-use certificate_finder::{Excluded, Excuse, Side};
+use certificate_finder::{CrossedWrites, Excluded, Excuse, Side};
 use std::alloc::{AllocError, Global};
 
 /// That the call at a position precedes the call at another.
@@ -25,6 +25,7 @@ pub(crate) fn arrows(alloc: Global, reason: &Reason) -> Result<Vec<Arrow>, Alloc
         Reason::Interval(_) => Ok(Vec::new(alloc)),
         Reason::Hit(hit, puts) => hit_arrows(alloc, *hit, puts.as_slice()),
         Reason::Crossed(one, other) => side_arrows(alloc, one, other),
+        Reason::Unread(unread) => unread_arrows(alloc, unread.reads.as_slice()),
         Reason::OutOfOrder(_, call, earlier) => Ok(vec![in alloc;
             Arrow {
                 from: *call,
@@ -90,4 +91,30 @@ fn side_arrows(alloc: Global, one: &Side, other: &Side) -> Result<Vec<Arrow>, Al
             to: one.late
         },
     ]?)
+}
+
+/// What precedes what, for a hit that would cross two writes whichever of these puts it read.
+fn unread_arrows(alloc: Global, reads: &[CrossedWrites]) -> Result<Vec<Arrow>, AllocError>
+    ensures { IfOk result (λ arrows. arrows.items ≡ flat_map read_arrows (take 3 reads.now)) }
+{
+    let mut arrows: Vec<Arrow> = Vec::new(alloc);
+    for writes in first_three(reads) {
+        push_read(&mut arrows, writes)?;
+    }
+    Ok(arrows)
+}
+
+/// Appends what precedes what, for a put that a hit would cross with another write.
+fn push_read(arrows: &mut Vec<Arrow>, writes: &CrossedWrites) -> Result<(), AllocError>
+    ensures { OnOk result (arrows.new.items ≡ arrows.old.items ++ read_arrows writes.now) }
+{
+    arrows.push(Arrow {
+        from: writes.one.early,
+        to: writes.other.late,
+    })?;
+    arrows.push(Arrow {
+        from: writes.other.early,
+        to: writes.one.late,
+    })?;
+    Ok(())
 }

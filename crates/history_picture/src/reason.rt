@@ -1,6 +1,6 @@
 // Why a history, or a history with its certificate, is rejected.
 use crate::latest::Latest;
-use certificate_finder::{Excluded, Side, Witness};
+use certificate_finder::{Excluded, Side, UnreadHit, Witness};
 
 /// Why a history is rejected, with a certificate or with none. A place is an index into the certificate, and each other
 /// number a position of the history.
@@ -12,6 +12,8 @@ pub enum Reason {
     Hit(u32, Vec<Excluded>),
     /// Two writes of a key, each of which has to stand before the other.
     Crossed(Side, Side),
+    /// A hit that can have read several puts, and read none: whichever it read, two writes of its key would be crossed.
+    Unread(UnreadHit),
     /// The call at a place precedes another one, at an earlier place: the place, the call, the other.
     OutOfOrder(usize, u32, u32),
     /// The hit at a place is not of its key's latest value there: the place, the hit, the latest.
@@ -36,6 +38,7 @@ impl Reason {
             Witness::Interval(position) => Reason::Interval(position),
             Witness::Hit(hit, puts) => Reason::Hit(hit, puts),
             Witness::Crossed(one, other) => Reason::Crossed(one, other),
+            Witness::Unread(unread) => Reason::Unread(unread),
         }
     }
 }

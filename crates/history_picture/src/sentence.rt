@@ -2,13 +2,13 @@
 ghost use Rattle.std.specs.Prelude.{◌≡◌, IfOk, string_bytes};
 ghost use Rattle.std.specs.List.{flat_map};
 ghost use Rattle.std.specs.Option.{option_copied};
-ghost use Rattle.history_picture.specs.Sentences.{also_words, crossed_words, excuse_words, expired_words, hit_kind, hit_words, interval_words, latest_words, lone_words, order_words, out_of_order_words, repeated_words, replaced_words, sentence_of, wrong_hit_words};
+ghost use Rattle.history_picture.specs.Sentences.{also_words, crossed_words, excuse_words, expired_words, hit_kind, hit_words, interval_words, latest_words, lone_words, order_words, out_of_order_words, read_words, repeated_words, replaced_words, sentence_of, unread_words, wrong_hit_words};
 
 use crate::latest::Latest;
-use crate::marks::first_eight;
+use crate::marks::{first_eight, first_three};
 use crate::reason::Reason;
 use crate::scene::Scene;
-use certificate_finder::{Excluded, Excuse, Side};
+use certificate_finder::{CrossedWrites, Excluded, Excuse, Side, UnreadHit};
 use std::alloc::{AllocError, Global};
 
 impl Scene<'_> {
@@ -22,6 +22,7 @@ impl Scene<'_> {
             Reason::Interval(position) => self.interval(alloc, *position),
             Reason::Hit(hit, puts) => self.hit(alloc, *hit, puts.as_slice()),
             Reason::Crossed(one, other) => self.crossed(alloc, one, other),
+            Reason::Unread(unread) => self.unread(alloc, unread),
             Reason::OutOfOrder(place, call, earlier) => {
                 self.out_of_order(alloc, *place, *call, *earlier)
             }
@@ -169,6 +170,49 @@ impl Scene<'_> {
         let back = self.order(alloc, other.early, one.late)?;
         format!(in alloc;
             "{first} and {second} have no order: {forth}, so the first has to stand before the second; and {back}, so the second has to stand before the first"
+        )
+    }
+
+    /// A hit that would cross two writes whichever of its puts it read.
+    #[tactic(auto, unfolding(crate::specs::Sentences::unread_words))]
+    fn unread(&self, alloc: Global, unread: &UnreadHit) -> Result<String, AllocError>
+        ensures { IfOk result (λ text. string_bytes text
+            ≡ unread_words self.now.history.now self.now.lines.now unread.now.hit unread.now.reads.items) }
+    {
+        let reads = unread.reads.as_slice();
+        let many = reads.len();
+        let name = self.name(alloc, unread.hit)?;
+        let also = self.reads(alloc, first_three(reads))?;
+        format!(in alloc;
+            "{name} fits {many} puts, and whichever of them it read, two writes would have no order{also}"
+        )
+    }
+
+    /// With which write each of several puts would have no order, if a hit read it.
+    fn reads(&self, alloc: Global, reads: &[CrossedWrites]) -> Result<String, AllocError>
+        ensures { IfOk result (λ text. string_bytes text
+            ≡ flat_map (read_words self.now.history.now self.now.lines.now) reads.now) }
+    {
+        let mut text = String::new(alloc);
+        for writes in reads {
+            let one = self.read(alloc, writes)?;
+            text.push_str(one.as_str())?;
+        }
+        Ok(text)
+    }
+
+    /// With which write a put would have no order, if a hit read it.
+    #[tactic(auto, unfolding(crate::specs::Sentences::read_words))]
+    fn read(&self, alloc: Global, writes: &CrossedWrites) -> Result<String, AllocError>
+        ensures { IfOk result (λ text. string_bytes text
+            ≡ read_words self.now.history.now self.now.lines.now writes.now) }
+    {
+        let put = self.name(alloc, writes.one.write)?;
+        let other = self.name(alloc, writes.other.write)?;
+        let forth = self.order(alloc, writes.one.early, writes.other.late)?;
+        let back = self.order(alloc, writes.other.early, writes.one.late)?;
+        format!(in alloc;
+            "; if it read {put}, {forth}, so that put has to stand before {other}; and {back}, so {other} has to stand before that put"
         )
     }
 

@@ -7,7 +7,7 @@ use Rattle.std.proofs.lemmas.List.Sums.{fold-append}
 use Rattle.std.proofs.lemmas.Option.{slice_get-get_or, slice_get_past, slice_get_within}
 use Rattle.trace_file.specs.declared.call.Call.{Call}
 use Rattle.certificate_finder.specs.declared.witness.Witness.{Witness}
-use Rattle.certificate_finder.specs.declared.witness.Witness.TheVariants.{Interval, Hit, Crossed}
+use Rattle.certificate_finder.specs.declared.witness.Witness.TheVariants.{Interval, Hit, Crossed, Unread}
 use Rattle.certificate_finder.specs.Witnesses.{IsWitness}
 use Rattle.judge_run.specs.Telling.{put_in, ascending, first_position, lines_at}
 
@@ -21,6 +21,7 @@ first_within history (Interval call) is = some_within _ history call (slice_get 
 first_within history (Hit hit puts) is = slice_get_within history hit is.call is.at
 first_within history (Crossed one other) is =
     some_within _ history one.write (slice_get history one.write) refl is.first.writes
+first_within history (Unread unread) is = slice_get_within history unread.hit is.call is.at
 
 -- ---- a number put at its place
 

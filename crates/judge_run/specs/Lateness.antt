@@ -6,7 +6,7 @@ use Rattle.certificate_finder.specs.declared.excluded.Excluded.{Excluded}
 use Rattle.certificate_finder.specs.declared.excluded.Excuse.{Excuse}
 use Rattle.certificate_finder.specs.declared.excluded.Excuse.TheVariants.{Later, Expired, Replaced}
 use Rattle.certificate_finder.specs.declared.witness.Witness.{Witness}
-use Rattle.certificate_finder.specs.declared.witness.Witness.TheVariants.{Interval, Hit, Crossed}
+use Rattle.certificate_finder.specs.declared.witness.Witness.TheVariants.{Interval, Hit, Crossed, Unread}
 
 -- whether a value had expired, if that is why its put was not read
 abbrev pub is_expiry : Excuse → Bool
@@ -56,3 +56,4 @@ abbrev pub late_of : List Call → Witness → Option ℕ
 late_of history (Interval call) = None
 late_of history (Hit hit puts) = late_hit history hit puts.items
 late_of history (Crossed one other) = None
+late_of history (Unread unread) = None

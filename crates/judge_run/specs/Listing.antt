@@ -7,8 +7,9 @@ use Rattle.trace_file.specs.declared.call.Call.{Call}
 use Rattle.certificate_finder.specs.declared.faults.CrossedWrites.{CrossedWrites}
 use Rattle.certificate_finder.specs.declared.faults.Faults.{Faults}
 use Rattle.certificate_finder.specs.declared.faults.WrongHit.{WrongHit}
+use Rattle.certificate_finder.specs.declared.unread_hit.UnreadHit.{UnreadHit}
 use Rattle.certificate_finder.specs.declared.witness.Witness.{Witness}
-use Rattle.certificate_finder.specs.declared.witness.Witness.TheVariants.{Interval, Hit, Crossed}
+use Rattle.certificate_finder.specs.declared.witness.Witness.TheVariants.{Interval, Hit, Crossed, Unread}
 use Rattle.certificate_finder.specs.Faults.{AreFaults}
 use Rattle.judge_run.specs.declared.fault_key.FaultKey.{FaultKey}
 use Rattle.judge_run.specs.declared.fault_list.FaultList.{FaultList}
@@ -26,9 +27,13 @@ hit_reason wrong = Hit wrong.hit wrong.puts
 abbrev pub crossed_reason : CrossedWrites → Witness
 crossed_reason writes = Crossed writes.one writes.other
 
--- faults as reasons: the calls that end before they start, the wrong hits, and the crossed writes of each key
+-- a hit that would cross two writes whichever of several puts it read, as a reason
+abbrev pub unread_reason : UnreadHit → Witness
+unread_reason unread = Unread unread
+
+-- faults as reasons: the calls that end before they start, the wrong hits, the crossed writes of each key, and the hits that would cross two writes whichever of several puts they read
 abbrev pub reasons_of : Faults → List Witness
-reasons_of faults = map reversed_reason faults.reversed.items ++ (map hit_reason faults.hits.items ++ map crossed_reason faults.crossed.items)
+reasons_of faults = map reversed_reason faults.reversed.items ++ (map hit_reason faults.hits.items ++ (map crossed_reason faults.crossed.items ++ map unread_reason faults.unread.items))
 
 -- these are all faults of a history
 pub record AreListed (history : List Call) (faults : List Witness) : Type 0 where

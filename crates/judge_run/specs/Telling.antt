@@ -6,9 +6,10 @@ use Rattle.trace_file.specs.declared.call.Call.{Call}
 use Rattle.certificate_finder.specs.declared.excluded.Excluded.{Excluded}
 use Rattle.certificate_finder.specs.declared.excluded.Excuse.{Excuse}
 use Rattle.certificate_finder.specs.declared.excluded.Excuse.TheVariants.{Later, Expired, Replaced}
+use Rattle.certificate_finder.specs.declared.faults.CrossedWrites.{CrossedWrites}
 use Rattle.certificate_finder.specs.declared.witness.Side.{Side}
 use Rattle.certificate_finder.specs.declared.witness.Witness.{Witness}
-use Rattle.certificate_finder.specs.declared.witness.Witness.TheVariants.{Interval, Hit, Crossed}
+use Rattle.certificate_finder.specs.declared.witness.Witness.TheVariants.{Interval, Hit, Crossed, Unread}
 use Rattle.history_text.specs.Coding.{word_of}
 
 -- a number put at its place among ascending ones, unless it stands there
@@ -34,11 +35,16 @@ excluded_positions excluded = excluded.put ∷ excuse_positions excluded.why
 abbrev pub side_positions : Side → List ℕ
 side_positions side = side.write ∷ side.early ∷ side.late ∷ []
 
--- the calls that a reason speaks of; of the puts that a hit can't have read, the first eight
+-- the calls of two sides
+abbrev pub crossed_positions : CrossedWrites → List ℕ
+crossed_positions writes = side_positions writes.one ++ side_positions writes.other
+
+-- the calls that a reason speaks of; of the puts that a hit can't have read, or would cross with another write, the first eight
 abbrev pub witness_positions : Witness → List ℕ
 witness_positions (Interval call) = call ∷ []
 witness_positions (Hit hit puts) = hit ∷ flat_map excluded_positions (take 8 puts.items)
 witness_positions (Crossed one other) = side_positions one ++ side_positions other
+witness_positions (Unread unread) = unread.hit ∷ flat_map crossed_positions (take 8 unread.reads.items)
 
 -- the lines of calls
 abbrev pub lines_at : List ℕ → List ℕ → List ℕ
@@ -49,12 +55,14 @@ abbrev pub witness_word : Witness → List ℕ
 witness_word (Interval call) = codes "interval"
 witness_word (Hit hit puts) = codes "hit"
 witness_word (Crossed one other) = codes "crossed"
+witness_word (Unread unread) = codes "unread"
 
 -- the call whose key a reason is about
 abbrev pub first_position : Witness → ℕ
 first_position (Interval call) = call
 first_position (Hit hit puts) = hit
 first_position (Crossed one other) = one.write
+first_position (Unread unread) = unread.hit
 
 -- the key of the call at a position
 abbrev pub key_at : List Call → ℕ → List ℕ

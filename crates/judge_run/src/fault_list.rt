@@ -4,8 +4,8 @@ use certificate_finder::Witness;
 /// All faults of a history that is rejected.
 #[derive(Debug, Drop)]
 pub struct FaultList {
-    /// The faults, each as a reason: the calls that end before they start, the wrong hits by their ends, and of each key that has
-    /// crossed writes two of them.
+    /// The faults, each as a reason: the calls that end before they start, the wrong hits by their ends, of each key that has crossed
+    /// writes two of them, and the hits that would cross two writes whichever of several puts they read.
     pub faults: Vec<Witness>,
     /// How many keys they are about.
     pub keys: usize,

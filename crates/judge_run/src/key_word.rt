@@ -16,6 +16,7 @@ pub(crate) fn kind_word(witness: &Witness) -> &'static str
         Witness::Interval(_) => "interval",
         Witness::Hit(..) => "hit",
         Witness::Crossed(..) => "crossed",
+        Witness::Unread(_) => "unread",
     }
 }
 
@@ -27,6 +28,7 @@ pub(crate) fn first_position(witness: &Witness) -> u32
         Witness::Interval(call) => *call,
         Witness::Hit(hit, _) => *hit,
         Witness::Crossed(one, _) => one.write,
+        Witness::Unread(unread) => unread.hit,
     }
 }
 

@@ -102,6 +102,6 @@ pub(crate) fn late_of(history: &History, fault: &Witness) -> Option<u64>
 {
     match fault {
         Witness::Hit(hit, puts) => late_hit(history, *hit, puts),
-        Witness::Interval(_) | Witness::Crossed(..) => None,
+        Witness::Interval(_) | Witness::Crossed(..) | Witness::Unread(_) => None,
     }
 }

@@ -1,12 +1,12 @@
 // Listing all faults of a history that is rejected.
 ghost use Rattle.std.specs.Prelude.{◌≡◌, ◌++◌, IfOk, OnOk, map};
 ghost use Rattle.certificate_finder.specs.Finding.{IfRejected};
-ghost use Rattle.judge_run.specs.Listing.{AreListed, IsListed, crossed_reason, hit_reason, reasons_of, reversed_reason};
+ghost use Rattle.judge_run.specs.Listing.{AreListed, IsListed, crossed_reason, hit_reason, reasons_of, reversed_reason, unread_reason};
 
 use crate::fault_keys::key_count;
 use crate::fault_list::FaultList;
 use certificate_finder::{
-    CrossedWrites, Faults, Found, Witness, WrongHit, find_faults_with_hasher,
+    CrossedWrites, Faults, Found, UnreadHit, Witness, WrongHit, find_faults_with_hasher,
 };
 use std::alloc::{AllocError, Global};
 use std::hash::BuildHasher;
@@ -48,6 +48,18 @@ fn add_crossed(reasons: &mut Vec<Witness>, crossed: &[CrossedWrites]) -> Result<
     Ok(())
 }
 
+/// Appends the hits that would cross two writes whichever of several puts they read.
+fn add_unread(reasons: &mut Vec<Witness>, hits: Vec<UnreadHit>) -> Result<(), AllocError>
+    ensures { OnOk result (reasons.new.items ≡ reasons.old.items ++ map unread_reason hits.items) }
+{
+    for unread in hits {
+        let Ok(()) = reasons.push(Witness::Unread(unread)) else {
+            return Err(AllocError);
+        };
+    }
+    Ok(())
+}
+
 /// Faults as reasons, in their order.
 fn reasons_of(alloc: Global, faults: Faults) -> Result<Vec<Witness>, AllocError>
     ensures { IfOk result (λ reasons. reasons.items ≡ reasons_of faults) }
@@ -56,11 +68,13 @@ fn reasons_of(alloc: Global, faults: Faults) -> Result<Vec<Witness>, AllocError>
         reversed,
         hits,
         crossed,
+        unread,
     } = faults;
     let mut reasons = Vec::new(alloc);
     add_reversed(&mut reasons, &reversed)?;
     add_hits(&mut reasons, hits)?;
     add_crossed(&mut reasons, &crossed)?;
+    add_unread(&mut reasons, unread)?;
     Ok(reasons)
 }
 

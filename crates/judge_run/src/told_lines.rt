@@ -1,9 +1,9 @@
 // The lines of a text that a verdict names.
 ghost use Rattle.std.specs.Prelude.{◌≡◌, ◌++◌, [], ◌∷◌, OnOk, IfOk, fold, string_bytes, take};
 ghost use Rattle.std.specs.List.{flat_map};
-ghost use Rattle.judge_run.specs.Telling.{put_in, ascending, excluded_positions, lines_at, side_positions, spaced, witness_positions};
+ghost use Rattle.judge_run.specs.Telling.{put_in, ascending, crossed_positions, excluded_positions, lines_at, side_positions, spaced, witness_positions};
 
-use certificate_finder::{Excluded, Excuse, Side, Witness};
+use certificate_finder::{CrossedWrites, Excluded, Excuse, Side, Witness};
 use std::alloc::{AllocError, Global};
 
 /// The most puts of a hit that are named.
@@ -56,6 +56,30 @@ fn add_side(positions: &mut Vec<u32>, side: &Side) -> Result<(), AllocError>
     add(positions, side.late)
 }
 
+/// Appends the positions of the first few puts that a hit would cross with another write, with the calls that show it.
+fn add_reads(positions: &mut Vec<u32>, reads: &[CrossedWrites]) -> Result<(), AllocError>
+    ensures { OnOk result (positions.new.items
+        ≡ positions.old.items ++ flat_map crossed_positions (take 8 reads.now)) }
+{
+    let few = &reads[..reads.len().min(MOST_PUTS)];
+    for writes in few {
+        match add_crossed(positions, writes) {
+            Ok(()) => {}
+            Err(refused) => return Err(refused),
+        }
+    }
+    Ok(())
+}
+
+/// Appends the positions of two writes that would be crossed, with the calls that show it.
+fn add_crossed(positions: &mut Vec<u32>, writes: &CrossedWrites) -> Result<(), AllocError>
+    ensures { OnOk result (positions.new.items
+        ≡ positions.old.items ++ crossed_positions writes.now) }
+{
+    add_side(positions, &writes.one)?;
+    add_side(positions, &writes.other)
+}
+
 /// The calls that a reason speaks of.
 pub(crate) fn positions_of(alloc: Global, witness: &Witness) -> Result<Vec<u32>, AllocError>
     ensures { IfOk result (λ positions. positions.items ≡ witness_positions witness.now) }
@@ -70,6 +94,10 @@ pub(crate) fn positions_of(alloc: Global, witness: &Witness) -> Result<Vec<u32>,
         Witness::Crossed(one, other) => {
             add_side(&mut positions, one)?;
             add_side(&mut positions, other)?;
+        }
+        Witness::Unread(unread) => {
+            add(&mut positions, unread.hit)?;
+            add_reads(&mut positions, unread.reads.as_slice())?;
         }
     }
     Ok(positions)

@@ -65,6 +65,10 @@ impl Copies {
         ensures copy { live_copy key.now moment self.now ≡ option_map (timed found.new) result }
         ensures untouched { (result ≡ None) → found.new ≡ found.old }
     {
+        // no hash of the key for an empty list
+        if self.held.is_empty() {
+            return None;
+        }
         match self.held.peek_bytes(key) {
             Some(timed) if timed.is_live(moment) => {
                 found.set(timed.value.bytes());
@@ -106,6 +110,9 @@ impl Copies {
     pub(crate) fn forget(&mut self, key: &[u8])
         ensures { self.new ≡ with_held (after_remove key.now) self.old }
     {
+        if self.held.is_empty() {
+            return;
+        }
         let _copy = self.held.remove_bytes(key);
     }
 }

@@ -15,6 +15,7 @@ enum Want {
     Interval,
     Hit,
     Crossed,
+    Unread,
     Undecided,
 }
 
@@ -59,6 +60,7 @@ fn found_of(alloc: Global, text: &str, skew: u64) -> Result<Want, AllocError> {
         Found::Rejected(Witness::Interval(_)) => Ok(Want::Interval),
         Found::Rejected(Witness::Hit(..)) => Ok(Want::Hit),
         Found::Rejected(Witness::Crossed(..)) => Ok(Want::Crossed),
+        Found::Rejected(Witness::Unread(_)) => Ok(Want::Unread),
         Found::Undecided(_) => Ok(Want::Undecided),
     }
 }

@@ -1,4 +1,4 @@
-use Rattle.std.proofs.Common.{◌+◌, ◌-◌, [], ◌∷◌, ◌++◌, ap, subst, sym, ◌∙◌, arith, rules}
+use Rattle.std.proofs.Common.{◌+◌, [], ◌∷◌, ◌++◌, ap, subst, sym, ◌∙◌, arith, rules}
 use Rattle.certificate_finder.specs.Unreading.{AreTops, IsTop}
 use Rattle.certificate_finder.proofs.EndLemmas.{found_at}
 use Rattle.certificate_finder.proofs.TopLemmas.{first_tops, top_begins, tops_more}

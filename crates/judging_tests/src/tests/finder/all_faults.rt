@@ -1,28 +1,31 @@
 // All that is wrong with histories made by hand.
 use super::telling::{Did, Row, history_of};
 use certificate_finder::{
-    CrossedWrites, Excluded, Excuse, Faults, Found, Witness, WrongHit, find, find_faults,
+    CrossedWrites, Excluded, Excuse, Faults, Found, UnreadHit, Witness, WrongHit, find, find_faults,
 };
 use std::alloc::Global;
 use std::test::Fail;
 use trace_file::History;
 
-/// What is wrong with a history: the calls that end before they start, the wrong hits, and the crossed writes, two by two.
+/// What is wrong with a history: the calls that end before they start, the wrong hits, the crossed writes, two by two, and the hits
+/// that would cross two writes whichever of several puts they read.
 #[derive(Clone, Copy)]
 struct Wrong {
     rows: &'static [Row],
     reversed: &'static [u32],
     hits: &'static [u32],
     crossed: &'static [(u32, u32)],
+    unread: &'static [u32],
 }
 
-const HISTORIES: [Wrong; 5] = [
+const HISTORIES: [Wrong; 7] = [
     // Nothing.
     Wrong {
         rows: &[(1, 0, 1, Did::Put(1)), (1, 2, 3, Did::Hit(1))],
         reversed: &[],
         hits: &[],
         crossed: &[],
+        unread: &[],
     },
     // Hits that were put never, too late, and written over: the first in the history ends last, and two end at one stamp.
     Wrong {
@@ -39,6 +42,7 @@ const HISTORIES: [Wrong; 5] = [
         reversed: &[],
         hits: &[3, 4, 0],
         crossed: &[],
+        unread: &[],
     },
     // Calls that end before they start, beside a hit that has expired.
     Wrong {
@@ -52,6 +56,7 @@ const HISTORIES: [Wrong; 5] = [
         reversed: &[0, 4],
         hits: &[2],
         crossed: &[],
+        unread: &[],
     },
     // At two keys writes that are crossed, at the second one three of them; a wrong hit of each key hides none.
     Wrong {
@@ -75,6 +80,7 @@ const HISTORIES: [Wrong; 5] = [
         reversed: &[],
         hits: &[14, 5],
         crossed: &[(1, 0), (6, 8)],
+        unread: &[],
     },
     // A value of one put is read, then one of two puts, then the first one again: nothing is sure.
     Wrong {
@@ -89,11 +95,66 @@ const HISTORIES: [Wrong; 5] = [
         reversed: &[],
         hits: &[],
         crossed: &[],
+        unread: &[4],
+    },
+    // The same at two keys, beside a wrong hit; the hit of the second key ends first, and another one there reads a put that is free.
+    Wrong {
+        rows: &[
+            (1, 0, 19, Did::Put(1)),
+            (1, 0, 19, Did::Put(1)),
+            (1, 0, 19, Did::Put(2)),
+            (1, 11, 12, Did::Hit(2)),
+            (1, 13, 14, Did::Hit(1)),
+            (1, 15, 16, Did::Hit(2)),
+            (2, 0, 9, Did::Put(1)),
+            (2, 0, 9, Did::Put(1)),
+            (2, 0, 9, Did::Put(2)),
+            (2, 1, 2, Did::Hit(2)),
+            (2, 3, 4, Did::Hit(1)),
+            (2, 5, 6, Did::Hit(2)),
+            (2, 8, 9, Did::Hit(1)),
+            (3, 17, 18, Did::Hit(7)),
+        ],
+        reversed: &[],
+        hits: &[13],
+        crossed: &[],
+        unread: &[10, 4],
+    },
+    // Two puts of one value that are crossed by hits with moments at which only one of them is live: the third hit, which both fit, is
+    // listed too.
+    Wrong {
+        rows: &[
+            (1, 0, 9, Did::Expiring(1, 5)),
+            (1, 0, 9, Did::Put(2)),
+            (1, 0, 9, Did::Put(1)),
+            (1, 1, 1, Did::HitAt(1, 7)),
+            (1, 2, 2, Did::Hit(2)),
+            (1, 4, 4, Did::HitAt(1, 7)),
+            (1, 3, 3, Did::HitAt(1, 2)),
+            (1, 5, 5, Did::Hit(2)),
+        ],
+        reversed: &[],
+        hits: &[],
+        crossed: &[(2, 1)],
+        unread: &[6],
     },
 ];
 
 /// Whether these are the hits at these positions.
 fn are_hits(hits: &[WrongHit], want: &[u32]) -> bool {
+    if hits.len() != want.len() {
+        return false;
+    }
+    for index in 0..hits.len() {
+        if hits[index].hit != want[index] {
+            return false;
+        }
+    }
+    true
+}
+
+/// Whether these are the hits at these positions that would cross two writes.
+fn are_unread(hits: &[UnreadHit], want: &[u32]) -> bool {
     if hits.len() != want.len() {
         return false;
     }
@@ -124,6 +185,7 @@ fn are_faults(faults: &Faults, want: &Wrong) -> bool {
     faults.reversed.as_slice() == want.reversed
         && are_hits(faults.hits.as_slice(), want.hits)
         && are_crossed(faults.crossed.as_slice(), want.crossed)
+        && are_unread(faults.unread.as_slice(), want.unread)
 }
 
 #[test]

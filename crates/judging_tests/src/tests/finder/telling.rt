@@ -24,6 +24,7 @@ pub(super) enum Want {
     Interval,
     Hit,
     Crossed,
+    Unread,
     Undecided,
 }
 
@@ -75,6 +76,7 @@ fn kind_of(witness: &Witness) -> Want {
         Witness::Interval(_) => Want::Interval,
         Witness::Hit(..) => Want::Hit,
         Witness::Crossed(..) => Want::Crossed,
+        Witness::Unread(_) => Want::Unread,
     }
 }
 
