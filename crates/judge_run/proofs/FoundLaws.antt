@@ -65,10 +65,14 @@ put_last ls i n all =
 -- ---- the lines of positions, one position after the other
 
 module _ (lines positions : List ℕ) (i : ℕ) (lt : i < length positions) where
+  pub line_more : lines_at lines (take (i + 1) positions) ≡ lines_at lines (take i positions) ++ lines_at lines (get_or positions i 0 ∷ [])
+  line_more =
+      ap (lines_at lines) (take_more positions i 0 lt)
+      ∙ filter_map-append (slice_get lines) (take i positions) (get_or positions i 0 ∷ [])
+
   pub one : ascending (lines_at lines (take (i + 1) positions)) ≡ fold put_in (ascending (lines_at lines (take i positions))) (lines_at lines (get_or positions i 0 ∷ []))
   one =
-      ap (λ ps. ascending (lines_at lines ps)) (take_more positions i 0 lt)
-      ∙ ap ascending (filter_map-append (slice_get lines) (take i positions) (get_or positions i 0 ∷ []))
+      ap ascending line_more
       ∙ fold-append put_in [] (lines_at lines (take i positions)) (lines_at lines (get_or positions i 0 ∷ []))
 
 -- the line of one position, if there is one

@@ -1,6 +1,7 @@
 mod RowLaws
 mod RunLaws
 mod ScopeLaws
+mod WarmLaws
 mod TraceLines
 mod ShowLaws
 mod FoundLaws

@@ -14,14 +14,22 @@ added_among recorded positions = filter (nat_le recorded) positions
 abbrev pub start_lines : List ℕ → ℕ → Witness → List ℕ
 start_lines lines recorded witness = ascending (lines_at lines (added_among recorded (witness_positions witness)))
 
--- what is said of them on the line of a fault
-abbrev pub start_text : List ℕ → List ℕ
-start_text lines = flat_map (λ line. codes ", a value was there from the start, read in line " ++ decimal line) lines
+-- what is said of one of them on the line of a fault
+unfoldable pub start_words : ℕ → List ℕ
+start_words line = codes ", a value was there from the start, read in line " ++ decimal line
 
--- what is said of them after an explanation
+-- what is said of all of them there
+abbrev pub start_text : List ℕ → List ℕ
+start_text lines = flat_map start_words lines
+
+-- what is said of one of them after an explanation
+unfoldable pub start_sentence : ℕ → List ℕ
+start_sentence line =
+    codes "the put at 0 (line " ++ (decimal line ++ (codes ") was not recorded: its value was there from the start, read in line " ++ (decimal line ++ codes "\n")))
+
+-- what is said of all of them there
 abbrev pub start_why : List ℕ → List ℕ
-start_why lines =
-    flat_map (λ line. codes "the put at 0 (line " ++ (decimal line ++ (codes ") was not recorded: its value was there from the start, read in line " ++ (decimal line ++ codes "\n")))) lines
+start_why lines = flat_map start_sentence lines
 
 -- the same as a row, if there are any
 abbrev pub start_rows : List ℕ → List Row

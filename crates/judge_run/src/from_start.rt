@@ -1,7 +1,7 @@
 // Telling of the puts that were added for values that were there from the start.
 ghost use Rattle.std.specs.Prelude.{◌≡◌, ◌++◌, ◌∷◌, [], IfOk, OnOk, string_bytes};
 ghost use Rattle.figures.specs.Figures.{with_rows};
-ghost use Rattle.judge_run.specs.FromStart.{added_among, start_lines, start_rows, start_text, start_why};
+ghost use Rattle.judge_run.specs.FromStart.{added_among, start_lines, start_rows, start_sentence, start_text, start_why, start_words};
 
 use crate::told_lines::{ascending_lines, positions_of};
 use certificate_finder::Witness;
@@ -51,16 +51,34 @@ fn add_if_added(added: &mut Vec<u32>, recorded: usize, position: u32) -> Result<
     }
 }
 
+/// What the line of a fault says of one of these lines.
+#[tactic(auto, unfolding(crate::specs::FromStart::start_words))]
+fn start_words(alloc: Global, line: u32) -> Result<String, AllocError>
+    ensures { IfOk result (λ text. string_bytes text ≡ start_words line) }
+{
+    format!(in alloc; ", a value was there from the start, read in line {line}")
+}
+
 /// What the line of a fault says of these lines.
 pub(crate) fn start_text(alloc: Global, lines: &[u32]) -> Result<String, AllocError>
     ensures { IfOk result (λ text. string_bytes text ≡ start_text lines.now) }
 {
     let mut text = String::new(alloc);
     for line in lines {
-        let words = format!(in alloc; ", a value was there from the start, read in line {line}")?;
+        let words = start_words(alloc, *line)?;
         text.push_str(words.as_str())?;
     }
     Ok(text)
+}
+
+/// What is said of one of these lines after an explanation.
+#[tactic(auto, unfolding(crate::specs::FromStart::start_sentence))]
+fn start_sentence(alloc: Global, line: u32) -> Result<String, AllocError>
+    ensures { IfOk result (λ text. string_bytes text ≡ start_sentence line) }
+{
+    format!(in alloc;
+        "the put at 0 (line {line}) was not recorded: its value was there from the start, read in line {line}\n"
+    )
 }
 
 /// What is said of these lines after an explanation.
@@ -69,10 +87,8 @@ pub(crate) fn start_why(alloc: Global, lines: &[u32]) -> Result<String, AllocErr
 {
     let mut text = String::new(alloc);
     for line in lines {
-        let words = format!(in alloc;
-            "the put at 0 (line {line}) was not recorded: its value was there from the start, read in line {line}\n"
-        )?;
-        text.push_str(words.as_str())?;
+        let sentence = start_sentence(alloc, *line)?;
+        text.push_str(sentence.as_str())?;
     }
     Ok(text)
 }

@@ -60,6 +60,62 @@ fn tell_counts(
     form.tell(alloc, text, "fault-keys", Figure::Count(keys as u64))
 }
 
+/// How many calls of a text that was judged were recorded.
+fn recorded_in<S: BuildHasher>(judged: &JudgedText<S>) -> usize
+    ensures { result ≡ recorded_of judged.now.extent (length judged.now.text.history) }
+{
+    recorded_of(&judged.extent, judged.text.history.len())
+}
+
+/// Tells what the reason speaks of for which a text is rejected.
+fn tell_witness<S: BuildHasher>(
+    alloc: Global,
+    form: Form,
+    text: &mut String,
+    judged: &JudgedText<S>,
+    witness: &Witness,
+) -> Result<(), AllocError>
+    ensures { OnOk result (string_bytes text.new
+        ≡ with_rows form (string_bytes text.old)
+        (reason_rows judged.now.text.history judged.now.text.lines.items
+        (recorded_of judged.now.extent (length judged.now.text.history)) witness.now)) }
+{
+    let recorded = recorded_in(judged);
+    let history = &judged.text.history;
+    match tell_reason(
+        alloc,
+        form,
+        text,
+        history,
+        &judged.text.lines,
+        recorded,
+        witness,
+    ) {
+        Ok(()) => Ok(()),
+        Err(refused) => Err(refused),
+    }
+}
+
+/// Tells how many faults a text has, and at how many keys.
+fn tell_fault_counts<S: BuildHasher>(
+    alloc: Global,
+    form: Form,
+    text: &mut String,
+    judged: &JudgedText<S>,
+) -> Result<(), AllocError>
+    requires { judged.now.faults.keys ≡ key_count judged.now.text.history judged.now.faults.faults.items }
+    ensures { OnOk result (string_bytes text.new
+        ≡ with_rows form (string_bytes text.old)
+        (count_rows (length judged.now.faults.faults.items)
+        (key_count judged.now.text.history judged.now.faults.faults.items))) }
+{
+    let faults = judged.faults.faults.len();
+    match tell_counts(alloc, form, text, faults, judged.faults.keys) {
+        Ok(()) => Ok(()),
+        Err(refused) => Err(refused),
+    }
+}
+
 /// Tells why a history is rejected, and how many faults it has.
 fn tell_rejected<S: BuildHasher>(
     alloc: Global,
@@ -76,17 +132,11 @@ fn tell_rejected<S: BuildHasher>(
         judged.now.faults.faults.items)) }
 {
     form.tell(alloc, text, "verdict", Figure::Word("rejected"))?;
-    tell_reason(
-        alloc,
-        form,
-        text,
-        &judged.text.history,
-        &judged.text.lines,
-        recorded_of(&judged.extent, judged.text.history.len()),
-        witness,
-    )?;
-    let faults = judged.faults.faults.len();
-    tell_counts(alloc, form, text, faults, judged.faults.keys)
+    tell_witness(alloc, form, text, judged, witness)?;
+    match tell_fault_counts(alloc, form, text, judged) {
+        Ok(()) => Ok(()),
+        Err(refused) => Err(refused),
+    }
 }
 
 /// Tells that this many hits are undecided.
@@ -141,7 +191,7 @@ pub fn tell_found<S: BuildHasher>(
         (found_rows judged.now.text.history judged.now.text.lines.items judged.now.extent judged.now.found
         judged.now.faults.faults.items)) }
 {
-    let calls = recorded_of(&judged.extent, judged.text.history.len());
+    let calls = recorded_in(judged);
     form.tell(alloc, text, "calls", Figure::Count(calls as u64))?;
     tell_kinds(alloc, form, text, &judged.extent, &judged.text.history)?;
     tell_extent(alloc, form, text, &judged.extent)?;

@@ -1,5 +1,5 @@
 // The text whose cache was filled before it begins.
-ghost use Rattle.std.specs.Prelude.{◌≡◌, ◌++◌, ◌<◌, All, IfOk, OnOk, length};
+ghost use Rattle.std.specs.Prelude.{◌≡◌, ◌++◌, ◌∷◌, [], IfOk, OnOk, length, true};
 ghost use Rattle.history_text.specs.Text.{text_by};
 ghost use Rattle.judge_run.specs.Scopes.{IsWarmedIf};
 ghost use Rattle.judge_run.specs.Telling.{lines_at};
@@ -54,9 +54,9 @@ fn warmed<S: BuildHasher + Copy + Drop>(
         lines,
         callers,
     } = text;
-    let Warmed { history, hits } = warm_with_hasher(alloc, hash_builder, history)?;
-    let mut lines = lines;
-    add_lines(&mut lines, &hits)?;
+    let warm = warm_with_hasher(alloc, hash_builder, history)?;
+    let Warmed { history, hits } = warm;
+    let lines = with_lines(alloc, &lines, &hits)?;
     let text = TextHistory {
         history,
         lines,
@@ -68,17 +68,31 @@ fn warmed<S: BuildHasher + Copy + Drop>(
     })
 }
 
-/// Appends the lines of the calls at these positions.
-fn add_lines(lines: &mut Vec<u32>, positions: &[u32]) -> Result<(), AllocError>
-    requires { All (λ position. position < length lines.old.items) positions.now }
-    ensures { OnOk result (lines.new.items
-        ≡ lines.old.items ++ lines_at lines.old.items positions.now) }
+/// Lines, and after them those of the calls at these positions.
+fn with_lines(alloc: Global, lines: &[u32], positions: &[u32]) -> Result<Vec<u32>, AllocError>
+    ensures { IfOk result (λ all. all.items ≡ lines.now ++ lines_at lines.now positions.now) }
 {
+    let mut all = Vec::from_slice(alloc, lines)?;
     for position in positions {
-        let line = lines[*position as usize];
-        let Ok(()) = lines.push(line) else {
-            return Err(AllocError);
-        };
+        match add_line(&mut all, lines, *position) {
+            Ok(()) => {}
+            Err(refused) => return Err(refused),
+        }
     }
-    Ok(())
+    Ok(all)
+}
+
+/// Appends the line of the call at a position, if there is one.
+fn add_line(all: &mut Vec<u32>, lines: &[u32], position: u32) -> Result<(), AllocError>
+    ensures { OnOk result (all.new.items
+        ≡ all.old.items ++ lines_at lines.now (position ∷ [])) }
+{
+    let place = position as usize;
+    if place >= lines.len() {
+        return Ok(());
+    }
+    match all.push(lines[place]) {
+        Ok(()) => Ok(()),
+        Err(_) => Err(AllocError),
+    }
 }

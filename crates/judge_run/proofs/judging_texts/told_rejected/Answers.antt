@@ -3,7 +3,9 @@ use Rattle.std.proofs.Common.{◌≡◌, ◌∙◌, ℕ, Bool, List, ap, arith, 
 use Rattle.figures.specs.declared.form.Form.{Form}
 use Rattle.history_text.specs.Text.{text_by}
 use Rattle.judge_run.specs.CallObjects.{with_calls}
+use Rattle.judge_run.specs.Extents.{recorded_of}
 use Rattle.judge_run.specs.FaultsTold.{listed, more_text}
+use Rattle.judge_run.specs.FromStart.{start_lines}
 use Rattle.judge_run.specs.Told.{IsBehind}
 use Rattle.judge_run.specs.declared.rejection.Rejection.{Rejection}
 use Rattle.judge_run.proofs.judging_texts.told_rejected.Goals as goal
@@ -19,15 +21,24 @@ returns g c =
     let calls = c.args.text.history in
     let lines = c.args.text.lines.items in
     let faults = c.args.list.now.faults.items in
+    let told = c.recorded_of-recorded.result in
+    let many = recorded_of c.args.extent.now (length calls) in
+    let recorded : told ≡ many = c.recorded_of-recorded.ensures ∙ ap (recorded_of c.args.extent.now) c.len.ensures.count in
     let begun =
     c.in_ok-begun.ensures
-    ∙ ap (λ (ls : List ℕ). with_calls form calls ls c.args.witness (string_bytes c.args.begun)) c.deref.ensures.value
-    ∙ ap (with_calls form calls lines c.args.witness) c.requires.begun in
+    ∙ ap (λ (ls : List ℕ). with_calls form calls ls told c.args.witness (string_bytes c.args.begun)) c.deref.ensures.value
+    ∙ ap (λ n. with_calls form calls lines n c.args.witness (string_bytes c.args.begun)) recorded
+    ∙ ap (with_calls form calls lines many c.args.witness) c.requires.begun in
+    let from_start =
+    c.in_ok-from_start.ensures
+    ∙ ap (λ (ls : List ℕ). start_lines ls told c.args.witness) c.deref-2.ensures.value
+    ∙ ap (λ n. start_lines lines n c.args.witness) recorded in
     let all =
     c.in_ok-begun-2.ensures
-    ∙ ap (λ fs. listed form c.args.detail.all calls lines fs (string_bytes c.in_ok-begun.begun)) c.deref-2.ensures.value
-    ∙ ap (listed form c.args.detail.all calls lines faults) begun in
-    let count : c.len.result ≡ length faults = omega (arith, c.len.ensures, c.args.list.now.faults.ok.0) in
+    ∙ ap (λ fs. listed form c.args.detail.all calls lines told fs (string_bytes c.in_ok-begun.begun)) c.deref-3.ensures.value
+    ∙ ap (λ n. listed form c.args.detail.all calls lines n faults (string_bytes c.in_ok-begun.begun)) recorded
+    ∙ ap (listed form c.args.detail.all calls lines many faults) begun in
+    let count : c.len-2.result ≡ length faults = omega (arith, c.len-2.ensures, c.args.list.now.faults.ok.0) in
     let more =
     c.as_str.ensures.value
     ∙ c.in_ok-more.ensures
@@ -37,6 +48,7 @@ returns g c =
       witness = c.args.witness;
       is = c.requires.witness;
       reason_is = c.of_witness.ensures;
+      from_start = from_start;
       faults = faults;
       are_all = c.requires.list.faults;
       behind = same_behind form c.args.detail.explain _ _ _ _ _ _ more all c.in_ok-text.ensures;
