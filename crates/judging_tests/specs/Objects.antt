@@ -1,5 +1,5 @@
 -- Objects that tell a verdict.
-use Rattle.std.specs.Prelude.{◌≡◌, ℕ, List, [], ◌∷◌, ◌++◌, length, codes}
+use Rattle.std.specs.Prelude.{◌≡◌, ℕ, List, [], ◌∷◌, ◌++◌, None, length, codes}
 use Rattle.certificate_checker.specs.declared.fault.Fault.{Fault}
 use Rattle.certificate_checker.specs.declared.verdict.Verdict.TheVariants as verdicts
 use Rattle.certificate_finder.specs.declared.found.Found.TheVariants as found
@@ -13,13 +13,18 @@ use Rattle.judge_run.specs.CallObjects.{with_calls}
 use Rattle.judge_run.specs.FoundRows.{found_rows}
 use Rattle.judge_run.specs.Kinds.{kind_rows}
 use Rattle.judge_run.specs.Listing.{AreListed}
-use Rattle.trace_file.specs.declared.trace.Trace.{Trace}
+use Rattle.judge_run.specs.declared.acceptance.Acceptance.{Acceptance}
+use Rattle.judge_run.specs.declared.extent.Extent.{Extent}
 use Rattle.judge_run.specs.declared.rejection.Rejection.{Rejection}
 
+-- nothing was added to the calls of a text
+abbrev pub as_spelled : Extent
+as_spelled = record { from_start = None }
+
 -- the object of a history that is accepted
-abbrev pub accepted_object : Trace → List ℕ
-accepted_object trace =
-    text_of_rows Json (row (codes "calls") (number (length trace.history)) ∷ (kind_rows trace.history ++ row (codes "verdict") (word (codes "accepted")) ∷ []))
+abbrev pub accepted_object : Acceptance → List ℕ
+accepted_object acceptance =
+    text_of_rows Json (row (codes "calls") (number (length acceptance.trace.history)) ∷ (kind_rows as_spelled acceptance.trace.history ++ row (codes "verdict") (word (codes "accepted")) ∷ []))
 
 -- the object of a history of this many calls that is rejected for this fault
 abbrev pub rejected_object : ℕ → Fault → List ℕ
@@ -37,4 +42,4 @@ pub record IsReasonTold (rejection : Rejection) (old new : List ℕ) : Type 0 wh
   pub reason_is : rejection.reason ≡ reason_of witness
   pub faults : List Witness
   pub are_all : AreListed rejection.history faults
-  pub new_is : new ≡ old ++ ended Json (with_calls Json rejection.history rejection.lines.items witness (with_rows Json [] (found_rows rejection.history rejection.lines.items (found.Rejected witness) faults)))
+  pub new_is : new ≡ old ++ ended Json (with_calls Json rejection.history rejection.lines.items (length rejection.history) witness (with_rows Json [] (found_rows rejection.history rejection.lines.items as_spelled (found.Rejected witness) faults)))

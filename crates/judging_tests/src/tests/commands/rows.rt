@@ -1,6 +1,6 @@
 // What callers rely on, of any input: the contract of each function here denies what a wrong body would do.
 ghost use Rattle.std.specs.Prelude.{◌≡◌, ◌++◌, Err, IfOk};
-ghost use Rattle.trace_file.specs.declared.trace.Trace.{Trace};
+ghost use Rattle.judge_run.specs.declared.acceptance.Acceptance.{Acceptance};
 ghost use Rattle.judge_run.specs.declared.rejection.Rejection.{Rejection};
 ghost use Rattle.judging_tests.specs.Objects.{IsFaultTold, IsReasonTold, accepted_object};
 
@@ -18,8 +18,8 @@ pub fn an_accepted_text_has_its_own_calls<S: BuildHasher + Copy + Drop, R: Read>
     reader: &mut R,
     out: &mut Vec<u8>,
 ) -> Result<Outcome, TellFault>
-    ensures { IfOk result (λ outcome. (trace : Trace) → outcome ≡ Outcome.Accepted trace
-        → out.new.items ≡ out.old.items ++ accepted_object trace) }
+    ensures { IfOk result (λ outcome. (acceptance : Acceptance) → outcome ≡ Outcome.Accepted acceptance
+        → out.new.items ≡ out.old.items ++ accepted_object acceptance) }
 {
     match answer_judge(
         alloc,
