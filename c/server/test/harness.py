@@ -132,6 +132,22 @@ class Client:
         self.send(data)
         equal(self.take(len(wanted)), wanted, what or f"the answer to {shortly(data)}")
 
+    def found(self, key):
+        """Gets a key; returns its value, or None."""
+        self.send(b"get %s\r\n" % key)
+        return self.take_found(key)
+
+    def take_found(self, key):
+        """Takes the answer to the get of a key that was sent; returns its value, or None."""
+        head = self.take_to(b"\r\n")
+        if head == b"END\r\n":
+            return None
+        expect(head.startswith(b"VALUE " + key + b" "), f"not the answer to get {key}: {head}")
+        length = int(head.split()[3])
+        value = self.take(length + 7)
+        expect(value[length:] == b"\r\nEND\r\n", f"not the end of get {key}: {value[length:]}")
+        return value[:length]
+
     def stats(self, word=b""):
         """Returns the lines of a stats command as a table."""
         self.send(b"stats " + word + b"\r\n" if word else b"stats\r\n")
