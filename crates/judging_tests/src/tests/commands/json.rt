@@ -84,9 +84,9 @@ const CASES: [Case; 11] = [
         end: JudgeEnd::Done,
     },
     Case {
-        text: "a 0 9 put k v\nb 0 9 put k v\nc 0 9 put k w\nd 1 2 hit k w\ne 3 4 hit k v\nd 5 6 hit k w\n",
+        text: "a 0 9 put k v\nb 0 9 put k v\nc 0 9 put k w\nd 1 2 hit k v\ne 3 4 hit k w\nd 5 6 hit k v\n",
         detail: WHY,
-        told: "{\"calls\":6,\"puts\":3,\"removals\":0,\"hits\":3,\"misses\":0,\"verdict\":\"undecided\",\"undecided-hits\":1}\n",
+        told: "{\"calls\":6,\"puts\":3,\"removals\":0,\"hits\":3,\"misses\":0,\"verdict\":\"undecided\",\"undecided-hits\":2}\n",
         end: JudgeEnd::Undecided,
     },
     Case {

@@ -40,9 +40,9 @@ const CASES: [Case; 5] = [
         file: "failures=\"0\" errors=\"1\">\n<testcase classname=\"kangaroo judge\" name=\"a&lt;b&gt;.txt\"><error message=\"accepted 2 calls of at least 3\"/>",
     },
     Case {
-        text: "a 0 9 put k v\nb 0 9 put k v\nc 0 9 put k w\nd 1 2 hit k w\ne 3 4 hit k v\nd 5 6 hit k w\n",
+        text: "a 0 9 put k v\nb 0 9 put k v\nc 0 9 put k w\nd 1 2 hit k v\ne 3 4 hit k w\nd 5 6 hit k v\n",
         least: 0,
-        file: "failures=\"0\" errors=\"1\">\n<testcase classname=\"kangaroo judge\" name=\"a&lt;b&gt;.txt\"><error message=\"undecided 1 hits\"/>",
+        file: "failures=\"0\" errors=\"1\">\n<testcase classname=\"kangaroo judge\" name=\"a&lt;b&gt;.txt\"><error message=\"undecided 2 hits\"/>",
     },
     Case {
         text: "a 1 2 get k\n",

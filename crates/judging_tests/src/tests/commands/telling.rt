@@ -51,7 +51,7 @@ fault hit key k lines 2
 ";
 
 /// Texts, each with what is reported of it. The verdicts were worked out by hand.
-const CASES: [Case; 16] = [
+const CASES: [Case; 17] = [
     Case {
         text: "",
         detail: WHY,
@@ -138,8 +138,14 @@ const CASES: [Case; 16] = [
     },
     Case {
         text: "a 0 9 put k v\nb 0 9 put k v\nc 0 9 put k w\nd 1 2 hit k w\ne 3 4 hit k v\nd 5 6 hit k w\n",
+        detail: Detail::NONE,
+        told: "rejected unread key k lines 1 2 3 4 5 6\n",
+        end: JudgeEnd::Rejected,
+    },
+    Case {
+        text: "a 0 9 put k v\nb 0 9 put k v\nc 0 9 put k w\nd 1 2 hit k v\ne 3 4 hit k w\nd 5 6 hit k v\n",
         detail: WHY,
-        told: "undecided 1 hits\n",
+        told: "undecided 2 hits\n",
         end: JudgeEnd::Undecided,
     },
     Case {

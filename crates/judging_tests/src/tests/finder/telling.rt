@@ -487,7 +487,7 @@ fn what_is_found_where_values_repeat(rt: HostRuntime) -> Result<(), Fail> {
                 (1, 3, 4, Did::Hit(1)),
                 (1, 5, 6, Did::Hit(2)),
             ],
-            Want::Undecided,
+            Want::Unread,
         ),
         // Such a one, and at another key a hit that can have read no put.
         (
