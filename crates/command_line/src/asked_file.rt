@@ -1,5 +1,5 @@
 // What was found for the arguments of a subcommand that reads a file.
-ghost use Rattle.std.specs.Prelude.{◌≡◌, IfOk, IfErr, IsSome, Some, codes, is_some, option_map, string_bytes};
+ghost use Rattle.std.specs.Prelude.{◌≡◌, ◌||◌, nat_lt, IfOk, IfErr, IsSome, Some, codes, is_some, option_map, string_bytes};
 ghost use Rattle.clap.specs.Words.{first_of, found_of, rows_of};
 ghost use Rattle.command_line.specs.CommandLine.{check_wanted, is_on, judge_wanted, judge_wanted_by, judge_wanted_of, judge_wanted_with, number_found_to, number_to, show_wanted, wanted_of, IsUsage};
 
@@ -163,16 +163,31 @@ fn judge_line_by<'a>(
     ensures taken { IsSome (judge_wanted_by (rows_of (found_of found.now)) at_least skew)
         → IfErr result (λ fault. fault ≡ LineFault.OutOfMemory) }
 {
-    let traced = has_trace(found);
-    if traced && skew > 0 {
-        return Err(not_with_trace(alloc, "skew", "calls with other times"));
-    }
-    if traced && is_on(found, "warm") {
-        return Err(not_with_trace(alloc, "warm", "puts that were not recorded"));
+    if has_trace(found) && is_changed(found, skew) {
+        return Err(untraced(alloc, skew));
     }
     match judging_line(alloc, found, at_least, skew) {
         Ok(line) => Ok(line),
         Err(fault) => Err(fault),
+    }
+}
+
+/// Whether what is judged is more than the calls as they were recorded: their stamps may differ from the truth by so much, or values may
+/// have been there from the start.
+fn is_changed<'a>(found: &ArgMatches<'a>, skew: u64) -> bool
+    ensures { result ≡ (nat_lt 0 skew || is_on (codes "warm") (rows_of (found_of found.now))) }
+{
+    skew > 0 || is_on(found, "warm")
+}
+
+/// What is reported if a trace is to be written of what is judged then.
+fn untraced(alloc: Global, skew: u64) -> LineFault
+    ensures { IsUsage result }
+{
+    if skew > 0 {
+        not_with_trace(alloc, "skew", "calls with other times")
+    } else {
+        not_with_trace(alloc, "warm", "puts that were not recorded")
     }
 }
 
