@@ -12,6 +12,7 @@ mod opened;
 mod opening;
 mod played;
 mod rounds;
+mod rows;
 mod run;
 mod test_device;
 mod test_policy;

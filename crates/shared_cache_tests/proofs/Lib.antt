@@ -1,0 +1,2 @@
+mod BookRows
+mod FinishRow
