@@ -43,6 +43,16 @@ fn events_of(alloc: Global, stream: &[u8], piece: usize) -> Result<String, Alloc
     Ok(told)
 }
 
+/// Whether a stream has these events in pieces of so many bytes.
+fn has_events_in(
+    alloc: Global,
+    stream: &[u8],
+    piece: usize,
+    told: &str,
+) -> Result<bool, AllocError> {
+    Ok(events_of(alloc, stream, piece)?.as_str() == told)
+}
+
 /// Whether a stream has these events in pieces of any length up to this one.
 fn has_events(
     alloc: Global,
@@ -51,7 +61,7 @@ fn has_events(
     told: &str,
 ) -> Result<bool, AllocError> {
     for piece in 1..longest {
-        if events_of(alloc, stream, piece)?.as_str() != told {
+        if !has_events_in(alloc, stream, piece, told)? {
             return Ok(false);
         }
     }
@@ -95,7 +105,7 @@ fn a_stream_gives_the_same_however_it_is_cut(rt: HostRuntime) -> Result<(), Fail
         Refused(LineRefusal { fault: Unknown, noreply: false, skipped: 0 })\n\
         Request(Quit)\n";
     assert!(rt; has_events(rt.alloc(), stream, 40, told)?);
-    assert_eq!(rt; events_of(rt.alloc(), stream, 1000)?.as_str(), told);
+    assert!(rt; has_events_in(rt.alloc(), stream, 1000, told)?);
     Ok(())
 }
 
@@ -130,7 +140,7 @@ fn a_long_line_of_keys_is_given_key_by_key(rt: HostRuntime) -> Result<(), Fail> 
         Key { key: [100], exptime: None, with_cas: false }\n\
         KeysEnd\n\
         Request(MetaNoop)\n";
-    assert_eq!(rt; events_of(rt.alloc(), &stream, 700)?.as_str(), told);
+    assert!(rt; has_events_in(rt.alloc(), &stream, 700, told)?);
     Ok(())
 }
 
@@ -159,6 +169,6 @@ fn another_line_has_at_most_2048_bytes(rt: HostRuntime) -> Result<(), Fail> {
     );
     let longer = padded(rt.alloc(), b"version", b' ', 2041, b"\r\nmn\r\n")?;
     let told = "Refused(LineRefusal { fault: LineTooLong, noreply: false, skipped: 0 })\n";
-    assert_eq!(rt; events_of(rt.alloc(), &longer, 700)?.as_str(), told);
+    assert!(rt; has_events_in(rt.alloc(), &longer, 700, told)?);
     Ok(())
 }
