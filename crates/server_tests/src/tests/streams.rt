@@ -1,4 +1,6 @@
 // Streams of requests, cut anywhere.
+mod rows;
+
 use memcached_text::{RequestReader, StreamEvent};
 use std::alloc::{AllocError, Global};
 use std::test::Fail;
