@@ -1,1 +1,2 @@
+mod CommandRows
 mod ReaderRows

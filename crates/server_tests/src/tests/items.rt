@@ -1,4 +1,5 @@
 //! What each command of memcached's protocol does to a lane.
+mod rows;
 mod run;
 
 use self::run::{Call, Kept, Lane, Step, run};
