@@ -1,4 +1,5 @@
 mod device_files;
 mod pages;
 mod parts;
+mod rows;
 mod sizes;
