@@ -1,2 +1,3 @@
 mod checker;
+mod rows;
 mod traces;
