@@ -3,3 +3,4 @@ mod SetRowLaws
 mod LogOwnerLaws
 mod LogRowLaws
 mod Newest
+mod LogTakeLaws

@@ -1,19 +1,22 @@
 //! What callers rely on, of every log that meets the `requires`: the contract of each function here denies what a wrong
 //! body would do.
-ghost use Rattle.std.specs.Prelude.{false, ◌≡◌, ◌≢◌, ◌≤◌, ℕ, List, Some, None, Ok, IfOk, IfSome, IsSomeAnd, IsTrue, Contains, slice_get, length};
+ghost use Rattle.std.specs.Prelude.{false, ◌≡◌, ◌≢◌, ◌≤◌, ℕ, List, Some, None, Ok, IfOk, IfSome, IsSomeAnd, IsTrue, All, Contains, find, slice_get, length, ◌∷◌};
 ghost use Rattle.std.specs.Option.{option_map};
 ghost use Rattle.record_pages.specs.Sizes.{IsPageSize, object_size, room, entering_prediction};
 ghost use Rattle.record_pages.specs.Expiry.{value_at};
 ghost use Rattle.record_pages.specs.Recs.{Rec};
 ghost use Rattle.klog_index.specs.declared.entry.Entry.{Entry};
 ghost use Rattle.record_pages.specs.declared.looked.Looked.{Looked};
-ghost use Rattle.klog_index.specs.Entries.{is_in, of_tag, lowered};
+ghost use Rattle.klog_index.specs.Entries.{is_in, is_of, of_tag, lowered};
 ghost use Rattle.klog.specs.declared.located_in_log.LocatedInLog.{LocatedInLog};
+ghost use Rattle.klog.specs.declared.flushed.Flushed.{Flushed};
 ghost use Rattle.klog.specs.declared.readmitted.Readmitted.{Readmitted};
-ghost use Rattle.klog.specs.Names.{HasRoom, flushed_number, device_page};
+ghost use Rattle.klog.specs.declared.set_taken.SetTaken.{SetTaken};
+ghost use Rattle.klog.specs.declared.taken_record.TakenRecord.{TakenRecord};
+ghost use Rattle.klog.specs.Names.{HasRoom, segment_of, flushed_number, device_page};
 ghost use Rattle.klog.specs.Shown.{IsSpelledOn, live_on, newest_with, place_in};
 ghost use Rattle.klog.specs.Flush.{is_on_page};
-ghost use Rattle.klog.specs.Moves.{IsOfOldest};
+ghost use Rattle.klog.specs.Moves.{IsOfOldest, taken_as};
 ghost use Rattle.klog.specs.Locate.{looked_of};
 ghost use Rattle.klog.specs.Calls.{LogLooks};
 ghost use Rattle.tier_tests.specs.Telling.{looked_by};
@@ -286,6 +289,54 @@ pub fn drop_of_one_set<const PAGE: usize>(log: &mut KLog<PAGE>, set: u32, taken:
         Contains log.new.entries other }
 {
     log.drop_taken(set, taken);
+}
+
+/// Of taken records those alone are dropped whose segment is still held: a newer record at the same place stays.
+pub fn drop_of_what_was_taken<const PAGE: usize>(
+    log: &mut KLog<PAGE>,
+    set: u32,
+    taken: &TakenRecords,
+)
+    ensures { (other : Entry) → Contains log.old.entries other →
+        All (λ t. t.segment ≢ segment_of log.old other) taken.now →
+        Contains log.new.entries other }
+{
+    log.drop_taken(set, taken);
+}
+
+/// The first record that is taken of a set is the newest that is live there, over an honest device.
+pub fn take_newest_first<D: PageDevice<PAGE>, const PAGE: usize>(
+    alloc: Global,
+    log: &mut KLog<PAGE>,
+    device: &mut D,
+    set: u32,
+) -> Result<SetTaken, AllocError>
+    requires page_size { IsPageSize PAGE }
+    requires pages { HasRoom (D.page_count device.old) log.old }
+    requires honest { IsTrue (D.honest device.old) }
+    requires spelled { IsSpelledOn PAGE (D.held device.old) log.old }
+    ensures { (first : TakenRecord) (others : List TakenRecord) →
+        result ≡ Ok (SetTaken.Records (first ∷ others)) →
+        IsSomeAnd (find (λ x. is_of set x.0) (live_on (D.held device.old) log.old))
+        (λ x. first ≡ taken_as log.old x) }
+{
+    match log.take_set(alloc, device, set) {
+        Ok(taken) => Ok(taken),
+        Err(error) => Err(error),
+    }
+}
+
+/// After a step that lost its page none of that page's records is live, over any device.
+pub fn step_that_loses_a_page<D: PageDevice<PAGE>, const PAGE: usize>(
+    log: &mut KLog<PAGE>,
+    device: &mut D,
+) -> Flushed
+    requires page_size { IsPageSize PAGE }
+    requires pages { HasRoom (D.page_count device.old) log.old }
+    ensures { result ≡ Flushed.PageLost → (e : Entry) → Contains log.new.entries e →
+        is_on_page log.old (flushed_number log.old) log.old.done e ≡ false }
+{
+    log.flush_step(device)
 }
 
 /// A segment is freed if none of its records is live, and takes no entry with it.
