@@ -1,5 +1,6 @@
 mod SetOwnerLaws
 mod SetRowLaws
+mod SetAfterLaws
 mod LogOwnerLaws
 mod LogRowLaws
 mod Newest

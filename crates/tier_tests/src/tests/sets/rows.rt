@@ -1,8 +1,9 @@
 //! What callers rely on, of any sets: the contract of each function here denies what a wrong body would do.
-ghost use Rattle.std.specs.Prelude.{◌≡◌, ◌≢◌, ◌<◌, ◌≤◌, ℕ, List, Ok, Some, OnErr, IsTrue, true};
+ghost use Rattle.std.specs.Prelude.{◌≡◌, ◌≢◌, ◌<◌, ◌≤◌, ℕ, List, All, Ok, Some, IsSome, OnErr, IsTrue, true};
 ghost use Rattle.std.specs.FinSet as bits;
 ghost use Rattle.record_pages.specs.Sizes.{IsPageSize, max_set_records};
 ghost use Rattle.record_pages.specs.Recs.{Rec};
+ghost use Rattle.record_pages.specs.Looking.{first_with};
 ghost use Rattle.set_hash.specs.Fnv.{fnv1a};
 ghost use Rattle.kset.specs.Notes.{lets_show};
 ghost use Rattle.kset.specs.Sets.{set_count, notes_of, IsPlaceIn};
@@ -144,6 +145,83 @@ pub fn read_off_the_page_of_another_set<D: PageDevice<PAGE>, const PAGE: usize>(
     ensures { (records : List SetRecord) → result ≢ Ok (SetRead.Records records) }
 {
     match sets.read_set(alloc, device, set) {
+        Ok(read) => Ok(read),
+        Err(error) => Err(error),
+    }
+}
+
+/// A key that was just written to the page of its set is not absent there, over an honest device.
+pub fn look_after_rewrite<D: PageDevice<PAGE>, const PAGE: usize>(
+    alloc: Global,
+    sets: &mut KSet<PAGE>,
+    device: &mut D,
+    writer: &SetPageWriter<PAGE>,
+    placed: &Placed,
+    key: &Key,
+    moment: u64,
+) -> Result<Option<Looked>, AllocError>
+    requires page_size { IsPageSize PAGE }
+    requires room { set_count sets.old ≤ D.page_count device.old }
+    requires place { IsPlaceIn sets.old placed.now }
+    requires hash { placed.now.hash ≡ fnv1a key.now }
+    requires honest { IsTrue (D.honest device.old) }
+    requires spelled { AreSpelledOn PAGE (D.held device.old) sets.old }
+    requires written { IsSome (first_with key.now writer.now) }
+    ensures { result ≢ Ok (Some Looked.Absent) }
+{
+    let Rewritten::Written = sets.rewrite(device, placed.set, writer) else {
+        return Ok(None);
+    };
+    match sets.look(alloc, device, placed, key, moment) {
+        Ok(looked) => Ok(Some(looked)),
+        Err(error) => Err(error),
+    }
+}
+
+/// If the page of a set could not be written, a key of the set is absent then, whatever the device.
+pub fn look_after_failed_rewrite<D: PageDevice<PAGE>, const PAGE: usize>(
+    alloc: Global,
+    sets: &mut KSet<PAGE>,
+    device: &mut D,
+    writer: &SetPageWriter<PAGE>,
+    placed: &Placed,
+    key: &Key,
+    moment: u64,
+) -> Result<Looked, AllocError>
+    requires page_size { IsPageSize PAGE }
+    requires room { set_count sets.old ≤ D.page_count device.old }
+    requires place { IsPlaceIn sets.old placed.now }
+    requires hash { placed.now.hash ≡ fnv1a key.now }
+    ensures { result ≡ Ok Looked.Absent }
+{
+    let Rewritten::Forgotten = sets.rewrite(device, placed.set, writer) else {
+        return Ok(Looked::Absent);
+    };
+    match sets.look(alloc, device, placed, key, moment) {
+        Ok(looked) => Ok(looked),
+        Err(error) => Err(error),
+    }
+}
+
+/// Of a key that was struck no record is read, over an honest device.
+pub fn read_after_strike<D: PageDevice<PAGE>, const PAGE: usize>(
+    alloc: Global,
+    sets: &mut KSet<PAGE>,
+    device: &mut D,
+    placed: &Placed,
+    key: &Key,
+) -> Result<SetRead, AllocError>
+    requires page_size { IsPageSize PAGE }
+    requires room { set_count sets.old ≤ D.page_count device.old }
+    requires place { IsPlaceIn sets.old placed.now }
+    requires hash { placed.now.hash ≡ fnv1a key.now }
+    requires honest { IsTrue (D.honest device.old) }
+    requires spelled { AreSpelledOn PAGE (D.held device.old) sets.old }
+    ensures { (records : List SetRecord) → result ≡ Ok (SetRead.Records records) →
+        All (λ r. r.stored.key ≢ key.now) records }
+{
+    sets.strike(placed);
+    match sets.read_set(alloc, device, placed.set) {
         Ok(read) => Ok(read),
         Err(error) => Err(error),
     }
