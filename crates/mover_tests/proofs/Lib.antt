@@ -1,3 +1,4 @@
 mod PutRow
 mod Struck
 mod OthersRow
+mod AbsentRow

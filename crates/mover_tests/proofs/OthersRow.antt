@@ -1,5 +1,5 @@
--- The moves that a commit or an abort leaves in flight.
-use Rattle.std.proofs.Common.{◌≡◌, ◌≢◌, ℕ, Bool, true, false, cond, eqb, not, List, [], ◌∷◌, Option, Some, None, refl, sym, ap, subst, ◌∙◌}
+-- The moves that a commit or an abort leaves in flight, and the failures that a commit counts.
+use Rattle.std.proofs.Common.{◌≡◌, ◌≢◌, ◌+◌, ◌%◌, ◌^◌, arith, ℕ, Bool, true, false, cond, eqb, not, List, [], ◌∷◌, Option, Some, None, refl, sym, ap, ◌∙◌}
 use Rattle.std.proofs.lemmas.Bool.{eqb-true, ne_eqb, false≢true}
 use Rattle.mover.specs.declared.flight.Flight.{Flight}
 use Rattle.mover.specs.declared.committed.Committed.{Committed}
@@ -8,7 +8,8 @@ use Rattle.mover.specs.declared.aborted.Aborted.{Aborted}
 use Rattle.mover.specs.declared.aborted.Aborted.TheVariants as aborted
 use Rattle.mover.specs.Store.{StoreState}
 use Rattle.mover.specs.Flight.{flight_of, without_flight, flight_struck}
-use Rattle.mover.specs.Commit.{CommitLeaves, Lands, after_abort}
+use Rattle.mover.specs.Commit.{CommitLeaves, Lands, after_abort, is_unwritten}
+use Rattle.page_device.specs.Device.{faults_after}
 use Rattle.kset.specs.declared.rewritten.Rewritten.{Rewritten}
 use Rattle.std.specs.Option.{option_map}
 use Rattle.std.specs.Prelude.{map, Result, Ok, Err, IsOk, IfOk}
@@ -79,3 +80,9 @@ pub put_marks : (size admit word n : ℕ) (p : Pair) (old new : LaneState) (resu
 put_marks size admit word n p old new (Ok pushed) ok gives =
     ap (λ (l : LaneState). flight_of n l.flights) gives.1 ∙ ap (flight_of n) (put_flies size admit word p old) ∙ struck_found (fnv1a p.key) n old.flights
 put_marks size admit word n p old new (Err e) ok gives = absurd (false≢true ok)
+
+-- a commit that says that its page was not written counted one failure more
+pub forgotten_failed : (before after : ℕ) (answer : Committed) → after ≡ faults_after before (is_unwritten answer) → answer ≡ committed.Forgotten → after ≢ before
+forgotten_failed before after answer counted is same =
+    let one_more : before ≡ (before + 1) % 2 ^ 64 = sym same ∙ counted ∙ ap (λ (a : Committed). faults_after before (is_unwritten a)) is in
+    omega arith

@@ -1,13 +1,15 @@
 -- What a get and a commit show after a strike of a key.
 use Rattle.std.proofs.Common.{◌≡◌, ℕ, List, Some, None, inl, ⊎_elim, refl, sym, ap, subst}
+use Rattle.std.proofs.lemmas.Bool.{false≢true}
 use Rattle.std.proofs.lemmas.Option.{none-some}
-use Rattle.std.specs.Prelude.{IsTrue}
+use Rattle.std.specs.Prelude.{IsTrue, IsOk, IfOk, Result, Ok, Err}
 use Rattle.record_pages.specs.Expiry.{is_live, timed}
 use Rattle.record_pages.specs.declared.timed_value.TimedValue.{TimedValue}
 use Rattle.record_pages.specs.declared.answer.Answer.{Answer}
 use Rattle.record_pages.specs.declared.answer.Answer.TheVariants.{Hit}
 use Rattle.record_pages.specs.declared.tier.Tier.{Tier}
 use Rattle.record_pages.specs.declared.pushed.Pushed.{Pushed}
+use Rattle.record_pages.specs.declared.put_fault.PutFault.{PutFault}
 use Rattle.memory_cache.specs.declared.pair.Pair.{Pair}
 use Rattle.policy_laws.specs.declared.choice.Choice.{Choice}
 use Rattle.mover.specs.declared.committed.Committed.{Committed}
@@ -59,3 +61,15 @@ removed_is_not_written size plan number key value committed old between new remo
     let struck = removal key old between order is in
     ⊎_elim (λ was. struck_is_hidden key value old between struck was.0) (λ put. none-some _ put)
     ((commit size plan number between new committed struck.order gives).shows (record { key = key; value = value }) here)
+
+-- a commit shows nothing that was not shown
+pub nothing_new_is_written : (size : ℕ) (plan : List Choice) (number : ℕ) (p : Pair) (committed : Committed) (old new : LaneState) → CommitShows → IsInOrder old →
+    CommitGives size plan number old committed new → IsShown new p → IsShown old p
+nothing_new_is_written size plan number p committed old new commit order gives here =
+    ⊎_elim (λ was. was.0) (λ put. absurd (none-some _ put)) ((commit size plan number old new committed order gives).shows p here)
+
+-- a put that is not refused leaves no other pair of its key to be shown
+pub put_is_alone : (size admit word : ℕ) (p : Pair) (told : TimedValue) (old new : LaneState) (result : Result Pushed PutFault) → PutShows → IsInOrder old → IsOk result →
+    IfOk result (λ pushed. IsStep (put_step size admit p word old) pushed new) → IsShown new (record { key = p.key; value = told }) → told ≡ p.value
+put_is_alone size admit word p told old new (Ok pushed) put order ok gives here = put_is_told p.key p.value told old new (put size admit word p old new pushed order gives) here
+put_is_alone size admit word p told old new (Err e) put order ok gives here = absurd (false≢true ok)

@@ -9,7 +9,10 @@ ghost use Rattle.record_pages.specs.declared.miss_cause.MissCause.{MissCause};
 ghost use Rattle.record_pages.specs.declared.timed_value.TimedValue.{TimedValue};
 ghost use Rattle.record_pages.specs.declared.tier.Tier.{Tier};
 ghost use Rattle.record_pages.specs.declared.tier.Tier.TheVariants.{Memory};
+ghost use Rattle.memory_cache.specs.declared.pair.Pair.{Pair};
 ghost use Rattle.mover.specs.Get.{answer_by};
+ghost use Rattle.mover.specs.Timed.{first_timed};
+ghost use Rattle.mover.specs.declared.answer_kind.AnswerKind.{AnswerKind};
 ghost use Rattle.mover.specs.Leaving.{HasAll};
 ghost use Rattle.kset.specs.Sets.{notes_of};
 ghost use Rattle.mover.specs.declared.flight.Flight.{Flight};
@@ -23,10 +26,12 @@ ghost use Rattle.mover.specs.declared.aborted.Aborted.{Aborted};
 ghost use Rattle.klog.specs.declared.flushed.Flushed.{Flushed};
 
 use klog::Flushed;
-use mover::{Aborted, Begin, Committed, Store, commit_shows, get_shows, put_shows, removal_shows};
+use mover::{
+    Aborted, AnswerKind, Begin, Committed, Store, commit_shows, get_shows, put_shows, removal_shows,
+};
 use page_device::PageDevice;
 use policy_laws::Plan;
-use record_pages::{Answer, Key, Pushed, PutFault, Value};
+use record_pages::{Answer, Key, Pushed, PutFault, Value, ValueBuffer};
 use std::alloc::AllocError;
 
 /// A get that misses, for any cause, leaves memory, the log, the sets and the moves in flight as they were, and how many
@@ -208,5 +213,78 @@ pub fn a_put_marks_each_move<D: PageDevice<PAGE>, const PAGE: usize>(
     ensures { (number : ℕ) → IsOk result → flight_of number store.new.flights
         ≡ option_map (flight_struck (fnv1a key)) (flight_of number store.old.flights) }
 {
+    store.put(key, value, word, expires)
+}
+
+/// Each pair that is shown after a commit was shown before it, with the same value and the same expiry, over an honest device.
+pub fn a_commit_shows_nothing_new<D: PageDevice<PAGE>, const PAGE: usize>(
+    store: &mut Store<D, PAGE>,
+    plan: &Plan,
+    number: u64,
+) -> Committed
+    requires honest { IsTrue (D.honest store.old.device) }
+    ensures { (pair : Pair) → IsShown (lane_of D.held store.new) pair →
+        IsShown (lane_of D.held store.old) pair }
+{
+    commit_shows();
+    let _layout = store.layout();
+    store.move_commit(plan, number)
+}
+
+/// A commit says that its page was not written only if a call of the device failed, whatever the device.
+pub fn a_forgotten_commit_has_failed<D: PageDevice<PAGE>, const PAGE: usize>(
+    store: &mut Store<D, PAGE>,
+    plan: &Plan,
+    number: u64,
+) -> Committed
+    ensures { result ≡ Committed.Forgotten →
+        D.failures store.new.device ≢ D.failures store.old.device }
+{
+    store.move_commit(plan, number)
+}
+
+/// A get says that a key is absent only if no tier has a pair of it, over an honest device.
+pub fn an_absent_key_is_in_no_tier<D: PageDevice<PAGE>, const PAGE: usize>(
+    store: &mut Store<D, PAGE>,
+    key: &Key,
+    moment: u64,
+) -> Result<Answer, AllocError>
+    requires honest { IsTrue (D.honest store.old.device) }
+    ensures { result ≡ Ok (Miss MissCause.Absent) → first_timed key.now (lane_of D.held store.old) ≡ None }
+{
+    let answer = store.get(key, moment)?;
+    Ok(answer)
+}
+
+/// A get into a buffer says that a key is absent only then, too.
+pub fn an_absent_key_is_in_no_tier_by_get_into<D: PageDevice<PAGE>, const PAGE: usize>(
+    store: &mut Store<D, PAGE>,
+    key: &[u8],
+    moment: u64,
+    found: &mut ValueBuffer,
+) -> AnswerKind
+    requires honest { IsTrue (D.honest store.old.device) }
+    ensures { result ≡ AnswerKind.Miss MissCause.Absent →
+        first_timed key.now (lane_of D.held store.old) ≡ None }
+{
+    store.get_into(key, moment, found)
+}
+
+/// After a put its pair is the only one of its key that a tier shows, or that a move in flight may show, over an honest device.
+/// That is so of what the tiers show, whatever a look-up makes of it.
+pub fn a_put_leaves_no_older_value<D: PageDevice<PAGE>, const PAGE: usize>(
+    store: &mut Store<D, PAGE>,
+    key: Key,
+    value: Value,
+    word: u32,
+    expires: u64,
+) -> Result<Pushed, PutFault>
+    requires honest { IsTrue (D.honest store.old.device) }
+    ensures { IsOk result → (told : TimedValue) →
+        IsShown (lane_of D.held store.new) (record { key = key; value = told }) →
+        told ≡ timed value expires }
+{
+    put_shows();
+    let _layout = store.layout();
     store.put(key, value, word, expires)
 }
