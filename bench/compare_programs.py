@@ -1,9 +1,10 @@
 #!/usr/bin/env python3
-"""compare_programs.py OLD NEW [RUNS]: two builds of the program beside one another: seconds and peak memory of scripts, runs, loads and judging.
+"""compare_programs.py OLD NEW [RUNS [WORD]]: two builds of the program beside one another: seconds and peak memory of scripts, runs, loads and judging.
 
 OLD and NEW are programs (`crates/bench_driver/out/bench_driver` of two trees). Each load is run RUNS times (5 if not given) by
 each program in turn, after one that does not count, so that what the machine does meanwhile meets both. A line has the load, the
-median seconds and the peak memory of both, and the ratio of the new one to the old one. Run it on an idle machine.
+median seconds and the peak memory of both, and the ratio of the new one to the old one. With WORD only the loads are run whose
+names have it. Run it on an idle machine.
 """
 import os
 import statistics
@@ -66,11 +67,11 @@ def compare(old, new, words, read, runs):
 
 def main():
     """Compares."""
-    if len(sys.argv) not in (3, 4):
+    if not 3 <= len(sys.argv) <= 5:
         raise SystemExit(__doc__)
-    runs = int(sys.argv[3]) if len(sys.argv) == 4 else 5
+    runs, word = int((sys.argv[3:] or ["5"])[0]), "".join(sys.argv[4:])
     with tempfile.TemporaryDirectory() as folder:
-        for name, words, read in loads(folder):
+        for name, words, read in [it for it in loads(folder) if word in it[0]]:
             (old, was), (new, now) = compare(sys.argv[1], sys.argv[2], words, read, runs)
             print(f"{name}: {old:.3f} s and {was / 1024:.0f} MiB, {new:.3f} s and {now / 1024:.0f} MiB,"
                   f" ratio {new / old:.2f} and {now / was:.2f}", flush=True)

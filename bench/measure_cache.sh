@@ -4,15 +4,17 @@
 # PART   quality   hit ratio, bytes written to flash and memory, beside two simulated designs: some 20 runs of 20 million calls;
 #                  they need no idle machine
 #        speed     calls a second and latencies at 1, 2 and 4 threads: needs an idle machine with four processors
+#        scale     the same load over 1, 16 and 64 GiB of sparse files, from an empty cache: needs an idle machine, and 5 GiB of memory
 #        server    the same stream to kangarood, and to memcached with and without extstore, which must be installed: needs an idle
 #                  machine
 #        plots     draws five pictures from what the other parts left in OUT
-# FOLDER has room for files of up to 1 GiB, in which another user may write; the programs are those of `make -C c kangaroo-bench server`.
+# FOLDER has room for files of up to 1 GiB (scale: of a disk, 8 GiB), in which another user may write; the programs are those of
+# `make -C c kangaroo-bench server`.
 set -e
 part=$1
 folder=$2
 out=$3
-[ -n "$out" ] || { sed -n '2,10s/^# \{0,1\}//p' "$0" >&2; exit 2; }
+[ -n "$out" ] || { sed -n '2,12s/^# \{0,1\}//p' "$0" >&2; exit 2; }
 here=$(CDPATH= cd -P "$(dirname "$0")" && pwd)
 programs=$here/../c/out
 mkdir -p "$folder/cache" "$out"
@@ -60,6 +62,16 @@ speed() {
         done
         cache "on-flash-$threads" --flash 256M --memory 24M --keys 8M --distribution zipf:0.9 --sizes uniform:50:150 \
             --cache-threads 4 --threads "$threads" --warmup 12M --seconds 8
+    done
+}
+
+# 20 million keys; memory is a sixteenth of flash.
+scale() {
+    for sizes in 1G:64M 16G:1G 64G:4G; do
+        for threads in 1 2 4; do
+            cache "scale-${sizes%:*}-$threads" --flash "${sizes%:*}" --memory "${sizes#*:}" --object-bytes 116 --keys 20M \
+                --distribution zipf:0.9 --sizes uniform:50:150 --cache-threads 4 --threads "$threads" --warmup 5M --seconds 10
+        done
     done
 }
 
@@ -111,7 +123,7 @@ plots() {
 }
 
 case $part in
-    quality | speed | server | plots) "$part" ;;
-    *) echo "measure_cache.sh: $part is no part: quality, speed, server or plots" >&2; exit 2 ;;
+    quality | speed | scale | server | plots) "$part" ;;
+    *) echo "measure_cache.sh: $part is no part: quality, speed, scale, server or plots" >&2; exit 2 ;;
 esac
 rm -rf "$folder/cache" "$folder/server" "$folder/extstore"
