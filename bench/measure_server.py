@@ -77,7 +77,8 @@ class Server:
             return Run(json.load(out), self.counts() - before, use.ru_nvcsw)
 
     def counts(self):
-        """What the system counts of its threads: switches, moves to other processors, waits for pages, and the time of upkeep."""
+        """What the system counts of its threads: switches, moves to other processors, waits for pages, the time of upkeep, and what the
+        host took of the machine's processors, in hundredths of a second."""
         counts = collections.Counter()
         tasks = f"/proc/{self.process.pid}/task"
         for task in os.listdir(tasks):
@@ -90,6 +91,7 @@ class Server:
                 if line.startswith("se.nr_migrations"):
                     counts["moved"] += int(line.split(":")[1])
         counts["pages"] = int(text_of(f"/proc/{self.process.pid}/stat").rsplit(")", 1)[1].split()[9])
+        counts["stolen"] = int(text_of("/proc/stat").split()[8])
         return counts
 
     def stop(self):
@@ -193,12 +195,13 @@ def dips():
                     ran = it[name].run(f"gets-{when.replace(' ', '-')}-{number}", 4, 1, *keys, "--mix", "100:0:0", "--seconds", "1",
                                        "--seed", str(number + 100))
                     runs[name, when].append(ran)
-    head("", "gets", "p50 of each run, us", "p99, us", "a request: slept", "stopped", "moved", "slept of the driver", "upkeep, ms a run")
+    head("", "gets", "p50 of each run, us", "p99, us", "a request: slept", "stopped", "moved", "slept of the driver", "upkeep, ms a run",
+         "taken by the host, ms a run")
     for (name, when), of in runs.items():
         shares = [[ran.counts[kind] / ran.requests for ran in of] for kind in ("slept", "stopped", "moved")]
         row(name, when, " ".join(f"{ran.p50:.1f}" for ran in sorted(of, key=lambda ran: ran.p50)), span([ran.p99 for ran in of]),
             *(span(share, 3) for share in shares), span([ran.driver_slept / ran.requests for ran in of], 2),
-            span([ran.counts["upkeep ns"] / 1e6 for ran in of], 1))
+            span([ran.counts["upkeep ns"] / 1e6 for ran in of], 1), span([10 * ran.counts["stolen"] for ran in of]))
 
 
 # ---------------------------------------------------------------------------------------------------------- threads, waits
@@ -268,7 +271,7 @@ def waits():
         group.limit(None)
         with servers({f"kangarood -t {count}": with_threads(count)}, enter=group.enter) as started:
             it = started[f"kangarood -t {count}"]
-            it.run("fill", 4, 16, *load, "--pattern", "plain", "--mix", "0:100:0", "--distribution", "uniform", "--operations", "10M")
+            it.run("fill", 4, 16, *load, "--pattern", "plain", "--mix", "0:100:0", "--distribution", "uniform", "--operations", "8M")
             group.limit(256)
             for connections in sorted({count, 64}):
                 ran = it.run(f"waits-{connections}", connections, 1, *load, "--distribution", "zipf:0.9", "--warmup", "3s", "--seconds", "8")
