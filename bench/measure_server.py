@@ -4,6 +4,7 @@ a table is printed.
 
 PART    beside   kangarood, memcached with extstore, and memcached, at 64 MiB of memory and 1 GiB of flash: 1 and 4 connections with 1
                  and 16 requests in flight. The three in turn, each twice; some 5 minutes
+        hits     the same three and the same stream, after 40 million calls: it needs no idle machine; some 5 minutes
         dips     one request at a time on four connections, in short runs after loads of puts: kangarood with and without a thread for
                  upkeep, and memcached, in turn; some 3 minutes
         threads  kangarood with 4, 16 and 32 threads, in turn, with all in memory; some 3 minutes
@@ -31,6 +32,8 @@ SOME = {
 }
 FILE = {"out": None, "folder": None}
 LOADS = ((4, 16), (4, 1), (1, 16), (1, 1))  # connections, requests in flight
+THREE = ("kangarood", "memcached with extstore", "memcached")
+STREAM = ("--keys", "10M", "--distribution", "zipf:0.99", "--sizes", "fixed:100")
 
 
 class Server:
@@ -112,6 +115,7 @@ class Run:
     def __init__(self, report, counts, driver_slept):
         it = report["measured"]
         self.hits, self.processor = it["hit_ratio"], it["server_processor_us_per_request"]
+        self.written = it["write_amplification"] or 0
         self.rates = it["gets"] / it["seconds"], requests_of(it) / it["seconds"]
         latency = it["latency_ns"].get("get", {"p50": 0, "p99": 0, "p99.9": 0})
         self.p50, self.p99, self.p999 = (latency[name] / 1000 for name in ("p50", "p99", "p99.9"))
@@ -161,23 +165,30 @@ def head(*cells):
 
 def beside():
     """The three servers, each fresh, and kept from load to load."""
-    load = ("--keys", "10M", "--distribution", "zipf:0.99", "--sizes", "fixed:100")
     runs = collections.defaultdict(list)
-    names = ("kangarood", "memcached with extstore", "memcached")
     for again in (1, 2):
-        for name in names:
+        for name in THREE:
             with servers({name: SOME[name]}) as it:
                 for seed, (connections, flight) in enumerate(LOADS, 1):
                     more = ("--warmup", "10M", "--operations", "4M") if seed == 1 else ("--keep", "--seed", str(seed), "--seconds", "6")
-                    ran = it[name].run(f"{connections}-{flight}-{again}", connections, flight, *load, *more)
+                    ran = it[name].run(f"{connections}-{flight}-{again}", connections, flight, *STREAM, *more)
                     runs[name, connections, flight].append(ran)
     head("connections, in flight", "", "hits", "gets a second", "requests a second", "p50, us", "p99, us", "processor, us a request")
     for connections, flight in LOADS:
-        for name in names:
+        for name in THREE:
             of = runs[name, connections, flight]
             row(f"{connections}, {flight}", name, span([it.hits for it in of], 3), span([it.rates[0] for it in of]),
                 span([it.rates[1] for it in of]), span([it.p50 for it in of], 1), span([it.p99 for it in of]),
                 span([it.processor for it in of], 2))
+
+
+def hits():
+    """What each keeps of the stream."""
+    head("", "hits", "bytes written to flash for each stored")
+    for name in THREE:
+        with servers({name: SOME[name]}) as it:
+            ran = it[name].run("hits", 4, 16, *STREAM, "--warmup", "40M", "--operations", "10M")
+            row(name, f"{ran.hits:.3f}", f"{ran.written:.1f}")
 
 
 # --------------------------------------------------------------------------------------------------------------------- dips
@@ -213,7 +224,7 @@ def with_threads(count):
 
 def threads():
     """More threads, where no thread waits for a device."""
-    load = ("--keys", "10M", "--distribution", "zipf:0.99", "--sizes", "fixed:100", "--keep")
+    load = (*STREAM, "--keep")
     loads = ((4, 16), (4, 1), (64, 1))
     runs = collections.defaultdict(list)
     with servers({f"kangarood -t {count}": with_threads(count) for count in (4, 16, 32)}) as started:
@@ -285,7 +296,7 @@ def waits():
 
 def main():
     """Runs a part."""
-    parts = {"beside": beside, "dips": dips, "threads": threads, "waits": waits}
+    parts = {"beside": beside, "hits": hits, "dips": dips, "threads": threads, "waits": waits}
     if len(sys.argv) != 4 or sys.argv[1] not in parts:
         sys.stderr.write(f"{__doc__}\n")
         sys.exit(2)

@@ -41,13 +41,22 @@ static void add_tally(const tally *from, snapshot *to) {
     for (int i = 0; i < LATENCIES; i++) add_histogram(&to->latencies[i], &from->latencies[i]);
 }
 
+/* Bytes that a server says it has written to flash: memcached with extstore, or kangarood. */
+static uint64_t bytes_written_by(connection *server) {
+    uint64_t bytes = 0, log_pages = 0, set_pages = 0;
+    if (read_statistic(server, "extstore_bytes_written", &bytes)) return bytes;
+    (void)read_statistic(server, "kangaroo_log_pages_written", &log_pages);
+    (void)read_statistic(server, "kangaroo_set_pages_written", &set_pages);
+    return (log_pages + set_pages) * PAGE_BYTES;
+}
+
 void take_snapshot(const run *of, connection *control, snapshot *to) {
     memset(to, 0, sizeof *to);
     to->at = now_ns();
     for (uint32_t i = 0; i < of->options->threads; i++) add_tally(of->workers[i].counted, to);
     for (int i = GET_MISS; i <= GET_SERVER; i++) add_histogram(&to->latencies[ALL_GETS], &to->latencies[i]);
     if (of->cache != NULL) kangaroo_counters_read(of->cache, &to->counters, sizeof to->counters);
-    if (control != NULL) (void)read_statistic(control, "extstore_bytes_written", &to->server_written);
+    if (control != NULL) to->server_written = bytes_written_by(control);
     if (of->cache != NULL || of->options->server_process > 0)
         to->own_memory = own_memory_of(of->options->server_process);
     if (of->options->server_process > 0) to->server_processor = processor_time_of(of->options->server_process);
