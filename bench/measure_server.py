@@ -36,6 +36,10 @@ THREE = ("kangarood", "memcached with extstore", "memcached")
 STREAM = ("--keys", "10M", "--distribution", "zipf:0.99", "--sizes", "fixed:100")
 
 
+class Failed(Exception):
+    """A server or a run that ended otherwise than it is to."""
+
+
 class Server:
     """A server in a folder of its own, by words that memcached and kangarood both have."""
 
@@ -62,7 +66,7 @@ class Server:
             if self.process.poll() is not None:
                 break
             time.sleep(0.02)
-        sys.exit(f"{self.name} does not serve")
+        raise Failed(f"{self.name} does not serve")
 
     def run(self, name, connections, flight, *words):
         """Loads it, and returns what came of it."""
@@ -75,7 +79,7 @@ class Server:
             _, status, use = os.wait4(driver.pid, 0)
             driver.returncode = status
             if status != 0:
-                sys.exit(f"{' '.join(command)}: status {status}")
+                raise Failed(f"{' '.join(command)}: status {status}; the server's is {self.process.poll()}")
             out.seek(0)
             return Run(json.load(out), self.counts() - before, use.ru_nvcsw)
 
@@ -267,11 +271,16 @@ class Group:
                 return
             except OSError:
                 time.sleep(0.1)
-        sys.exit(f"{self.file}: the system does not take {mib} MiB")
+        raise Failed(f"{self.file}: the system does not take {mib} MiB")
 
     def remove(self):
         """Removes it. Nobody is in it any more."""
         os.rmdir(self.path)
+
+
+def cells_of(ran):
+    """What a row says of a run in which threads wait."""
+    return (f"{ran.hits:.3f}", *(f"{it:,.0f}" for it in (*ran.rates, ran.p50, ran.p99, ran.p999)), f"{ran.counts['pages'] / ran.requests:.2f}")
 
 
 def waits():
@@ -285,9 +294,12 @@ def waits():
             it.run("fill", 4, 16, *load, "--pattern", "plain", "--mix", "0:100:0", "--distribution", "uniform", "--operations", "8M")
             group.limit(256)
             for connections in sorted({count, 64}):
-                ran = it.run(f"waits-{connections}", connections, 1, *load, "--distribution", "zipf:0.9", "--warmup", "3s", "--seconds", "8")
-                rows.append((f"-t {count}", connections, f"{ran.hits:.3f}", f"{ran.rates[0]:,.0f}", f"{ran.rates[1]:,.0f}",
-                             f"{ran.p50:,.0f}", f"{ran.p99:,.0f}", f"{ran.p999:,.0f}", f"{ran.counts['pages'] / ran.requests:.2f}"))
+                words = (*load, "--distribution", "zipf:0.9", "--warmup", "3s", "--seconds", "8")
+                try:
+                    rows.append((f"-t {count}", connections, *cells_of(it.run(f"waits-{connections}", connections, 1, *words))))
+                except Failed as cause:
+                    rows.append((f"-t {count}", connections, cause))
+                    break
     group.remove()
     head("", "connections", "hits", "gets a second", "requests a second", "p50, us", "p99, us", "p99.9, us", "waits a request")
     for it in rows:
@@ -303,7 +315,10 @@ def main():
     FILE["folder"], FILE["out"] = (os.path.abspath(it) for it in sys.argv[2:])
     os.makedirs(FILE["folder"], exist_ok=True)
     os.makedirs(FILE["out"], exist_ok=True)
-    parts[sys.argv[1]]()
+    try:
+        parts[sys.argv[1]]()
+    except Failed as cause:
+        sys.exit(f"measure_server.py: {cause}")
 
 
 if __name__ == "__main__":
