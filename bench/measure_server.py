@@ -198,23 +198,24 @@ def hits():
 # --------------------------------------------------------------------------------------------------------------------- dips
 
 def dips():
-    """Gets one at a time, right after puts, and again."""
-    keys = ("--keys", "1M", "--distribution", "uniform", "--sizes", "fixed:100", "--pattern", "plain", "--keep")
+    """Gets one at a time, right after puts, and again: of keys that memory has room for, and of more."""
     names = ("kangarood", "kangarood without upkeep threads", "memcached")
     runs = collections.defaultdict(list)
     with servers({name: SOME[name] for name in names}) as it:
-        for number in range(12):
-            for name in names:
-                it[name].run("puts", 4, 16, *keys, "--mix", "0:100:0", "--operations", "300K", "--seed", str(number + 1))
-                for when in ("after puts", "again"):
-                    ran = it[name].run(f"gets-{when.replace(' ', '-')}-{number}", 4, 1, *keys, "--mix", "100:0:0", "--seconds", "1",
-                                       "--seed", str(number + 100))
-                    runs[name, when].append(ran)
-    head("", "gets", "p50 of each run, us", "p99, us", "a request: slept", "stopped", "moved", "slept of the driver", "upkeep, ms a run",
-         "taken by the host, ms a run")
-    for (name, when), of in runs.items():
+        for keys in ("200K", "1M"):
+            load = ("--keys", keys, "--distribution", "uniform", "--sizes", "fixed:100", "--pattern", "plain", "--keep")
+            for number in range(8):
+                for name in names:
+                    it[name].run("puts", 4, 16, *load, "--mix", "0:100:0", "--operations", "300K", "--seed", str(number + 1))
+                    for when in ("after puts", "again"):
+                        ran = it[name].run(f"gets-{keys}-{when.replace(' ', '-')}-{number}", 4, 1, *load, "--mix", "100:0:0", "--seconds",
+                                           "1", "--seed", str(number + 100))
+                        runs[keys, name, when].append(ran)
+    head("keys", "", "gets", "p50 of each run, us", "p99, us", "a request: slept", "stopped", "moved", "slept of the driver",
+         "upkeep, ms a run", "taken by the host, ms a run")
+    for (keys, name, when), of in runs.items():
         shares = [[ran.counts[kind] / ran.requests for ran in of] for kind in ("slept", "stopped", "moved")]
-        row(name, when, " ".join(f"{ran.p50:.1f}" for ran in sorted(of, key=lambda ran: ran.p50)), span([ran.p99 for ran in of]),
+        row(keys, name, when, " ".join(f"{ran.p50:.1f}" for ran in sorted(of, key=lambda ran: ran.p50)), span([ran.p99 for ran in of]),
             *(span(share, 3) for share in shares), span([ran.driver_slept / ran.requests for ran in of], 2),
             span([ran.counts["upkeep ns"] / 1e6 for ran in of], 1), span([10 * ran.counts["stolen"] for ran in of]))
 
