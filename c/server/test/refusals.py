@@ -125,7 +125,7 @@ def half_of_memory():
         expect("kangarood: " in it.said(), f"it said {it.said()!r}")
     finally:
         it.remove()
-    it = Server("-m", "400", "--object-bytes", "1000", under=["prlimit", f"--data={200 << 20}"])
+    it = Server("-m", "400", "--object-bytes", "1000", "--bring-back", "0", under=["prlimit", f"--data={200 << 20}"])
     try:
         expect(it.is_ready, f"a large one starts: {it.said()}")
         client = it.client()
