@@ -1,0 +1,12 @@
+mod CallLemmas
+mod Sorting
+mod Spotting
+mod Ahead
+mod Parting
+mod Lining
+mod Picking
+mod Growing
+mod Windowing
+mod Dropping
+mod Restoring
+mod Joining

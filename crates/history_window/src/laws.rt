@@ -1,0 +1,28 @@
+// Laws of windows.
+ghost use Rattle.history_window.specs.Laws.{LinesAreAcceptable, StandingChains, StandingGrows, WindowStands};
+
+use certificate_finder::sorted_spots_are_accepted;
+
+/// A lawful line of all calls that agrees with time key by key makes a history acceptable.
+pub fn lines_are_acceptable()
+    ensures { LinesAreAcceptable }
+{
+    sorted_spots_are_accepted();
+}
+
+/// The calls in the window of an acceptable history stand for it.
+pub fn window_stands()
+    ensures { WindowStands }
+{
+    lines_are_acceptable();
+}
+
+/// What stands for a history stands for it when both have the same calls more, and to a later stamp.
+pub fn standing_grows()
+    ensures { StandingGrows }
+{}
+
+/// What stands for calls that stand for others stands for those.
+pub fn standing_chains()
+    ensures { StandingChains }
+{}

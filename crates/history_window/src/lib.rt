@@ -1,0 +1,6 @@
+//! What a judge that reads a stream of calls may forget of those that it has read.
+#![tactic(auto)]
+
+mod laws;
+
+pub use laws::{lines_are_acceptable, standing_chains, standing_grows, window_stands};
