@@ -15,8 +15,9 @@ use Rattle.history_window.specs.Windows.{IsBefore, IsLastCut, IsWindow, ReadsLat
 use Rattle.history_window.proofs.Ahead.{Once, ahead_filter, filter_ahead, first_member}
 use Rattle.history_window.proofs.CallLemmas.{end_is, no_write, precedes_of, put_writes, same_value}
 use Rattle.history_window.proofs.Lining.{AgreesLine, IsLawfulLine, ReadsIn, agrees_to, ahead_of_write, lawful_to}
+use Rattle.history_window.proofs.Showing.{shown_acceptable}
 use Rattle.history_window.proofs.Picking.{IsLineOf, line_accepted, run, run_from}
-use Rattle.history_window.proofs.Windowing.{at_history, at_whole, in_list, is_in, kept_calls, kept_stays, late_placed, list_in, places, places_once, places_within, starts_late, stays_kept}
+use Rattle.history_window.proofs.Keeping.{at_history, at_whole, in_list, is_in, kept_calls, kept_holds, late_placed, list_in, places, places_once, places_within, starts_late, holds_kept}
 
 module _ (bound : ℕ) (history later : List Call) (kept : List ℕ) (window : IsWindow bound history kept) (late : StartFrom bound later) (line : List ℕ) (once : Once line) (each : (p : ℕ) → p < length (history ++ later) → Member p line) (agrees : AgreesLine (history ++ later) line) where
   module _ (hit : ℕ) (call : Call) (value : List ℕ) (moment : ℕ) (placed : Member hit (places history later kept)) (found : slice_get (history ++ later) hit ≡ Some call) (is : call.act ≡ Hit value moment) (r : ReadsIn (history ++ later) line hit call.key value moment) where
@@ -46,7 +47,7 @@ module _ (bound : ℕ) (history later : List Call) (kept : List ℕ) (window : I
         let not = not_after cut last other before apart in
         elim (member_either kept (run (length history) (length later)) hit placed) [
           | inl old ↦
-              let stays = kept_stays history later bound kept window hit old in
+              let stays = kept_holds history later (Stays bound history) kept window hit old in
               let mine = same_Some stays.call call (sym (at_whole history later hit stays.call stays.at) ∙ found) in
               let same_key : call.key ≡ stays.call.key = ap (λ (c : Call). c.key) (sym mine) in
               let here : slice_get history hit ≡ Some call = stays.at ∙ ap Some mine in
@@ -99,57 +100,11 @@ module _ (bound : ℕ) (history later : List Call) (kept : List ℕ) (window : I
 
     put_placed : Member r.put (places history later kept)
     put_placed = elim (cases_lt r.put (length history)) [
-      | inl below ↦ member_left kept (run (length history) (length later)) r.put (stays_kept history later bound kept window r.put below (put_stays below))
-      | inr past ↦ late_placed history later bound kept window r.put r.call past r.at
+      | inl below ↦ member_left kept (run (length history) (length later)) r.put (holds_kept history later (Stays bound history) kept window r.put below (put_stays below))
+      | inr past ↦ late_placed history later (Stays bound history) kept window r.put r.call past r.at
     ]
-
-  -- the line without what is forgotten
-  abbrev shown : List ℕ
-  shown = filter (is_in (places history later kept)) line
-
-  shown_placed : (p : ℕ) → Member p shown → Member p (places history later kept)
-  shown_placed p m = in_list (places history later kept) p (member_filter (is_in (places history later kept)) line p m).1
-
-  pub line_shown : IsLawfulLine (history ++ later) line → IsLineOf (history ++ later) (places history later kept) shown
-  line_shown lawful =
-      let test = is_in (places history later kept) in
-      record {
-        only = shown_placed;
-        each = λ p m. filter_member test line p (each p (places_within history later bound kept window p m)) (list_in (places history later kept) p m);
-        once = pairs_filter test (λ (p q : ℕ). p ≢ q) line once;
-        agrees = λ p q one other a. agrees p q one other (ahead_filter test line p q a);
-        lawful = λ hit call value moment m found is.
-            let r = lawful hit call value moment (member_filter test line hit m).0 found is in
-            let placed = put_placed hit call value moment (shown_placed hit m) found is r in
-            let passes = list_in (places history later kept) r.put placed in
-            record {
-              put = r.put;
-              call = r.call;
-              expires = r.expires;
-              at = r.at;
-              one_key = r.one_key;
-              is = r.is;
-              live = r.live;
-              ahead = filter_ahead test line r.put hit r.ahead passes (member_filter test line hit m).1;
-              last = λ other write at writes a. elim (r.last other write at writes (ahead_filter test line other hit a)) [
-                | inl same ↦ inl same
-                | inr sooner ↦ inr (filter_ahead test line other r.put sooner (member_filter test line other (first_member shown other hit a)).1 passes)
-              ];
-            };
-      }
 
 -- a history without what a window forgets is acceptable if the whole one is
 pub kept_acceptable : (bound : ℕ) (history later : List Call) (kept : List ℕ) → IsWindow bound history kept → StartFrom bound later → Acceptable (history ++ later) → Acceptable (in_order history kept ++ later)
 kept_acceptable bound history later kept window late whole =
-    let line = whole.0 in
-    let a = whole.1 in
-    let once = pairs_from (λ (p q : ℕ). p ≢ q) line a.spelled.once in
-    let agrees = agrees_to (history ++ later) line once a.agrees in
-    let lawful = lawful_to (history ++ later) line once a.lawful in
-    let shown_line = line_shown bound history later kept window late line once (λ p less. member_contained line p (a.spelled.each p less)) agrees lawful in
-    let chosen = places history later kept in
-    subst Acceptable (kept_calls history later bound kept window)
-    (line_accepted (history ++ later) chosen (places_within history later bound kept window) (places_once history later bound kept window) (filter (is_in chosen) line) shown_line
-    (member_all (λ (c : Call). c.start ≤ c.end) (in_order (history ++ later) chosen) (λ c m.
-    let found = member_picked (slice_get (history ++ later)) chosen c m in
-    all_member (λ (c : Call). c.start ≤ c.end) (history ++ later) c a.intervals (member_at (history ++ later) found.0 c found.2))))
+    shown_acceptable history later (Stays bound history) kept window (λ line once each agrees. put_placed bound history later kept window late line once each agrees) whole

@@ -6,7 +6,9 @@ mod Parting
 mod Lining
 mod Picking
 mod Growing
-mod Windowing
+mod Keeping
+mod Showing
 mod Dropping
 mod Restoring
 mod Joining
+mod Forgetting

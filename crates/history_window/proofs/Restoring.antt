@@ -17,7 +17,7 @@ use Rattle.history_window.proofs.Ahead.{Ahead, Once, ahead_either, ahead_joined}
 use Rattle.history_window.proofs.CallLemmas.{before_of, end_is, no_write, precedes_of, put_writes}
 use Rattle.history_window.proofs.Lining.{AgreesLine, IsLawfulLine, ReadsIn, ahead_of_write}
 use Rattle.history_window.proofs.Picking.{run, run_from}
-use Rattle.history_window.proofs.Windowing.{at_history, in_later, kept_below, kept_stays, places, starts_late, stays_kept}
+use Rattle.history_window.proofs.Keeping.{at_history, in_later, kept_below, kept_holds, places, starts_late, holds_kept}
 
 -- a call outlives a cut of its key
 abbrev Outlives : List Call → List ℕ → ℕ → ℕ → Type 0
@@ -120,7 +120,7 @@ module _ (bound : ℕ) (history : List Call) (line : List ℕ) (once : Once line
 
   module _ (later : List Call) (kept : List ℕ) (window : IsWindow bound history kept) (late : StartFrom bound later) (lapses : All (λ (call : Call). call.start ≤ call.end) later) where
     forgets : (p : ℕ) (call : Call) → slice_get history p ≡ Some call → ¬ Member p kept → ¬ Stays bound history p
-    forgets p call at not stays = not (stays_kept history later bound kept window p (slice_get_within history p call at) stays)
+    forgets p call at not stays = not (holds_kept history later (Stays bound history) kept window p (slice_get_within history p call at) stays)
 
     -- a call of the key of a forgotten one that ends before that one starts is forgotten too
     pub not_before : (p q : ℕ) (one other : Call) → slice_get history p ≡ Some one → ¬ Member p kept → Member q (places history later kept) → slice_get (history ++ later) q ≡ Some other → one.key ≡ other.key → is_miss one.act ≡ false → ¬ Precedes other one
@@ -134,8 +134,8 @@ module _ (bound : ℕ) (history : List Call) (line : List ℕ) (once : Once line
               let cut_at = last.is.writes.at in
               elim (member_either kept (run (length history) (length later)) q m) [
                 | inl old ↦
-                    let here = at_history history later q other (kept_below history later bound kept window q old) at_q in
-                    let stays = kept_stays history later bound kept window q old in
+                    let here = at_history history later q other (kept_below history later (Stays bound history) kept window q old) at_q in
+                    let stays = kept_holds history later (Stays bound history) kept window q old in
                     let mine = same_Some stays.call other (sym stays.at ∙ here) in
                     let keys : stays.call.key ≡ one.key = ap (λ (c : Call). c.key) mine ∙ sym same_key in
                     let span = lapse q other here in
@@ -163,7 +163,7 @@ module _ (bound : ℕ) (history : List Call) (line : List ℕ) (once : Once line
     -- a forgotten hit reads a forgotten put
     pub reads_forgotten : (hit : ℕ) (call : Call) (value : List ℕ) (moment : ℕ) → slice_get history hit ≡ Some call → call.act ≡ Hit value moment → ¬ Member hit kept → (r : ReadsIn history line hit call.key value moment) → ¬ Member r.put kept
     reads_forgotten hit call value moment at is not r old =
-        let stays = kept_stays history later bound kept window r.put old in
+        let stays = kept_holds history later (Stays bound history) kept window r.put old in
         let mine = same_Some stays.call r.call (sym stays.at ∙ r.at) in
         let keys : stays.call.key ≡ call.key = ap (λ (c : Call). c.key) mine ∙ r.one_key in
         let put : IsPut history call.key value r.put = record { call = r.call; at = r.at; puts = record { one_key = r.one_key; expires = r.expires; is = r.is } } in

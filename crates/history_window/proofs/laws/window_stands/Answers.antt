@@ -1,5 +1,5 @@
 use Rattle.history_window.proofs.Dropping.{kept_acceptable}
-use Rattle.history_window.proofs.Joining.{whole_acceptable}
+use Rattle.history_window.proofs.Forgetting.{whole_acceptable}
 use Rattle.history_window.proofs.laws.window_stands.Goals as goal
 
 pub returns : goal.returns

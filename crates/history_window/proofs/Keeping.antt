@@ -1,4 +1,4 @@
--- A window and what comes after it, within the whole history.
+-- Calls that are kept of a history, and what comes after it, within the whole history.
 use Rattle.std.proofs.Common.{◌≡◌, ◌≢◌, ℕ, ◌+◌, ◌-◌, ◌<◌, ◌≤◌, zero, suc, Bool, true, eqb, Some, List, [], ◌∷◌, ◌++◌, length, sym, ap, ◌∙◌, arith, inl, inr}
 use Rattle.std.specs.Prelude.{slice_get}
 use Rattle.std.specs.List.{list_any}
@@ -9,8 +9,8 @@ use Rattle.trace_file.specs.declared.call.Call.{Call}
 use Rattle.certificate_checker.specs.Orders.{in_order}
 use Rattle.certificate_checker.proofs.public_laws.Listing.{Member, all_member, contained_member, member_at, member_contained, member_either, member_right, pairs_append, pairs_from, pairs_weaker}
 use Rattle.certificate_checker.proofs.public_laws.Lookups.{any_from_contains, contains_from_any}
+use Rattle.certificate_finder.specs.Lists.{AreAllBelow}
 use Rattle.history_window.specs.Standing.{StartFrom}
-use Rattle.history_window.specs.Windows.{IsWindow, Stays}
 use Rattle.history_window.proofs.Ahead.{Once}
 use Rattle.history_window.proofs.Picking.{in_run, look_left, run, run_from, run_once, run_picks, same_picks}
 
@@ -46,18 +46,18 @@ module _ (history later : List Call) where
   pub starts_late : (bound p : ℕ) (call : Call) → StartFrom bound later → length history ≤ p → slice_get (history ++ later) p ≡ Some call → bound ≤ call.start
   starts_late bound p call late past at = all_member (λ (c : Call). bound ≤ c.start) later call late (in_later p call past at)
 
-  module _ (bound : ℕ) (kept : List ℕ) (window : IsWindow bound history kept) where
+  module _ (P : ℕ → Type 0) (kept : List ℕ) (all : AreAllBelow P (length history) kept) where
     pub kept_below : (p : ℕ) → Member p kept → p < length history
-    kept_below p m = all_member (λ q. q < length history) kept p window.below m
+    kept_below p m = all_member (λ q. q < length history) kept p all.below m
 
-    pub kept_stays : (p : ℕ) → Member p kept → Stays bound history p
-    kept_stays p m = all_member (Stays bound history) kept p window.each m
+    pub kept_holds : (p : ℕ) → Member p kept → P p
+    kept_holds p m = all_member P kept p all.each m
 
-    pub stays_kept : (p : ℕ) → p < length history → Stays bound history p → Member p kept
-    stays_kept p less stays = member_contained kept p (window.all p less stays)
+    pub holds_kept : (p : ℕ) → p < length history → P p → Member p kept
+    holds_kept p less holds = member_contained kept p (all.all p less holds)
 
     pub kept_once : Once kept
-    kept_once = pairs_weaker (λ (p q : ℕ). p < q) (λ (p q : ℕ). p ≢ q) kept (λ p q l m less same. omega (arith, less, same)) (pairs_from (λ (p q : ℕ). p < q) kept window.rise)
+    kept_once = pairs_weaker (λ (p q : ℕ). p < q) (λ (p q : ℕ). p ≢ q) kept (λ p q l m less same. omega (arith, less, same)) (pairs_from (λ (p q : ℕ). p < q) kept all.rise)
 
     pub places_within : (p : ℕ) → Member p (places history later kept) → p < length (history ++ later)
     places_within p m =
