@@ -13,7 +13,7 @@ use Rattle.history_window.specs.Laws.{LinesAreAcceptable}
 use Rattle.history_window.specs.Standing.{Acceptable, StartFrom}
 use Rattle.history_window.specs.Windows.{IsWindow, Stays}
 use Rattle.history_window.proofs.Ahead.{Once, ahead_filter, filter_ahead, first_member, second_member}
-use Rattle.history_window.proofs.Joining.{joined_acceptable, order_of, tail_reads}
+use Rattle.history_window.proofs.Joining.{joined_acceptable, lapses_both, order_of, tail_reads}
 use Rattle.history_window.proofs.Keeping.{at_history, at_whole, in_list, is_in, kept_calls, late_placed, list_in, places, places_once, places_within}
 use Rattle.history_window.proofs.Lining.{AgreesLine, IsLawfulLine, ReadsIn, agrees_to, lawful_to}
 use Rattle.history_window.proofs.Picking.{IsLineOf, line_of, run, run_from}
@@ -73,12 +73,6 @@ module _ (bound : ℕ) (history later : List Call) (kept : List ℕ) (window : I
         member_right gone tail p (is.each p (late_placed history later (Stays bound history) kept window p call.0 past call.1))
   ]
 
-  joined_lapses : All (λ (call : Call). call.start ≤ call.end) (history ++ later)
-  joined_lapses = member_all (λ (call : Call). call.start ≤ call.end) (history ++ later) (λ call m. elim (member_either history later call m) [
-    | inl old ↦ all_member (λ (c : Call). c.start ≤ c.end) history call intervals old
-    | inr new ↦ all_member (λ (c : Call). c.start ≤ c.end) later call lapses new
-  ])
-
   -- a forgotten hit reads what it read, and that is forgotten too
   gone_lawful : IsLawfulLine (history ++ later) gone
   gone_lawful hit call value moment m at hits =
@@ -108,7 +102,7 @@ module _ (bound : ℕ) (history later : List Call) (kept : List ℕ) (window : I
       (λ p q one other a at_p at_q. agrees p q one other (ahead_filter is_gone line p q a) (gone_call p one (first_member gone p q a) at_p) (gone_call q other (second_member gone p q a) at_q))
       is.agrees
       (λ p q one other m n at_p at_q same_key no_miss no_other. not_before bound history line once each intervals agrees lawful later kept window late lapses p q one other (gone_call p one m at_p) (gone_not p m) (is.only q n) at_q same_key no_miss)
-      lines_are (order_of (history ++ later) (gone ++ tail) joined_once joined_below joined_each) joined_lapses gone_lawful
+      lines_are (order_of (history ++ later) (gone ++ tail) joined_once joined_below joined_each) (lapses_both history later intervals lapses) gone_lawful
       (λ hit call value moment m at hits. tail_reads (history ++ later) gone tail joined_once hit call.key value moment m (is.lawful hit call value moment m at hits))
 
 -- a history is acceptable if it is acceptable without what a window forgets, and so is what it was when it forgot

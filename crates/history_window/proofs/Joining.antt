@@ -5,7 +5,7 @@ use Rattle.std.proofs.lemmas.Bool.{cases_lt}
 use Rattle.trace_file.specs.declared.act.Act.TheVariants.{Hit}
 use Rattle.trace_file.specs.declared.call.Call.{Call}
 use Rattle.certificate_checker.specs.Orders.{IsOrder, Precedes}
-use Rattle.certificate_checker.proofs.public_laws.Listing.{Member, contained_member, member_all, member_either, pairs_from, pairs_to}
+use Rattle.certificate_checker.proofs.public_laws.Listing.{Member, all_member, contained_member, member_all, member_either, pairs_from, pairs_to}
 use Rattle.certificate_finder.specs.Spots.{AreOfOne, is_miss}
 use Rattle.certificate_finder.specs.Turns.{end_at, start_at}
 use Rattle.history_window.specs.Laws.{KeysAgree, LinesAreAcceptable}
@@ -25,6 +25,13 @@ order_of history line once below each = record {
   each = λ p less. contained_member line p (each p less);
   once = pairs_to (λ (p q : ℕ). p ≢ q) line once;
 }
+
+-- what holds of each call of two lists holds of each of both
+pub lapses_both : (history later : List Call) → All (λ (call : Call). call.start ≤ call.end) history → All (λ (call : Call). call.start ≤ call.end) later → All (λ (call : Call). call.start ≤ call.end) (history ++ later)
+lapses_both history later first second = member_all (λ (call : Call). call.start ≤ call.end) (history ++ later) (λ call m. elim (member_either history later call m) [
+  | inl old ↦ all_member (λ (c : Call). c.start ≤ c.end) history call first old
+  | inr new ↦ all_member (λ (c : Call). c.start ≤ c.end) later call second new
+])
 
 module _ (history : List Call) (front tail : List ℕ) (once : Once (front ++ tail)) where
   -- what stands in the front stands in no tail

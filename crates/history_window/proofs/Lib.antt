@@ -12,3 +12,5 @@ mod Dropping
 mod Restoring
 mod Joining
 mod Forgetting
+mod Idling
+mod Spending

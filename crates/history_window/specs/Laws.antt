@@ -6,6 +6,7 @@ use Rattle.certificate_checker.specs.Latest.{IsLawful}
 use Rattle.certificate_checker.specs.Orders.{IsOrder, in_order}
 use Rattle.certificate_finder.specs.Spots.{AreOfOne}
 use Rattle.certificate_finder.specs.Turns.{end_at, start_at}
+use Rattle.history_window.specs.Spent.{AreUnspent}
 use Rattle.history_window.specs.Standing.{Acceptable, StandFor, StartFrom}
 use Rattle.history_window.specs.Windows.{IsWindow}
 
@@ -28,6 +29,14 @@ abbrev pub WindowStands : Type 0
 WindowStands =
     (bound : ℕ) (history : List Call) (kept : List ℕ)
     → IsWindow bound history kept
+    → Acceptable history
+    → StandFor bound (in_order history kept) history
+
+-- the calls of an acceptable history that are no spent hits stand for it
+abbrev pub UnspentStand : Type 0
+UnspentStand =
+    (bound : ℕ) (history : List Call) (kept : List ℕ)
+    → AreUnspent bound history kept
     → Acceptable history
     → StandFor bound (in_order history kept) history
 

@@ -1,3 +1,4 @@
 pub mod Laws
+pub mod Spent
 pub mod Standing
 pub mod Windows

@@ -1,5 +1,5 @@
 // Laws of windows.
-ghost use Rattle.history_window.specs.Laws.{LinesAreAcceptable, StandingChains, StandingGrows, WindowStands};
+ghost use Rattle.history_window.specs.Laws.{LinesAreAcceptable, StandingChains, StandingGrows, UnspentStand, WindowStands};
 
 use certificate_finder::sorted_spots_are_accepted;
 
@@ -13,6 +13,13 @@ pub fn lines_are_acceptable()
 /// The calls in the window of an acceptable history stand for it.
 pub fn window_stands()
     ensures { WindowStands }
+{
+    lines_are_acceptable();
+}
+
+/// The calls of an acceptable history that are no spent hits stand for it.
+pub fn unspent_stand()
+    ensures { UnspentStand }
 {
     lines_are_acceptable();
 }
