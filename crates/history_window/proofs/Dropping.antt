@@ -1,6 +1,6 @@
 -- What is acceptable stays so without the calls that a window forgets.
-use Rattle.std.proofs.Common.{◌≡◌, ◌≢◌, ℕ, ◌<◌, ◌≤◌, Some, List, ◌++◌, length, refl, sym, ap, ◌∙◌, subst, arith, inl, inr}
-use Rattle.std.specs.Prelude.{filter, slice_get}
+use Rattle.std.proofs.Common.{◌≡◌, ◌≢◌, ℕ, ◌<◌, Some, List, ◌++◌, length, refl, sym, ap, ◌∙◌, subst, arith, inl, inr}
+use Rattle.std.specs.Prelude.{slice_get}
 use Rattle.std.proofs.lemmas.Bool.{cases_eq, cases_lt}
 use Rattle.std.proofs.lemmas.Option.{same_Some, slice_get_within}
 use Rattle.trace_file.specs.declared.act.Act.TheVariants.{Put, Hit}
@@ -8,16 +8,16 @@ use Rattle.trace_file.specs.declared.call.Call.{Call}
 use Rattle.certificate_checker.specs.Deeds.{deed_of}
 use Rattle.certificate_checker.specs.Latest.{Writes}
 use Rattle.certificate_checker.specs.Orders.{Precedes, in_order}
-use Rattle.certificate_checker.proofs.public_laws.Listing.{Member, all_member, filter_member, member_all, member_at, member_contained, member_either, member_filter, member_left, member_picked, pairs_filter, pairs_from}
+use Rattle.certificate_checker.proofs.public_laws.Listing.{Member, member_either, member_left}
 use Rattle.certificate_finder.specs.Spots.{is_miss}
 use Rattle.history_window.specs.Standing.{Acceptable, StartFrom}
 use Rattle.history_window.specs.Windows.{IsBefore, IsLastCut, IsWindow, ReadsLate, Stays}
-use Rattle.history_window.proofs.Ahead.{Once, ahead_filter, filter_ahead, first_member}
+use Rattle.history_window.proofs.Ahead.{Once}
 use Rattle.history_window.proofs.CallLemmas.{end_is, no_write, precedes_of, put_writes, same_value}
-use Rattle.history_window.proofs.Lining.{AgreesLine, IsLawfulLine, ReadsIn, agrees_to, ahead_of_write, lawful_to}
+use Rattle.history_window.proofs.Lining.{AgreesLine, ReadsIn, ahead_of_write}
 use Rattle.history_window.proofs.Showing.{shown_acceptable}
-use Rattle.history_window.proofs.Picking.{IsLineOf, line_accepted, run, run_from}
-use Rattle.history_window.proofs.Keeping.{at_history, at_whole, in_list, is_in, kept_calls, kept_holds, late_placed, list_in, places, places_once, places_within, starts_late, holds_kept}
+use Rattle.history_window.proofs.Picking.{run, run_from}
+use Rattle.history_window.proofs.Keeping.{at_history, at_whole, kept_holds, late_placed, places, starts_late, holds_kept}
 
 module _ (bound : ℕ) (history later : List Call) (kept : List ℕ) (window : IsWindow bound history kept) (late : StartFrom bound later) (line : List ℕ) (once : Once line) (each : (p : ℕ) → p < length (history ++ later) → Member p line) (agrees : AgreesLine (history ++ later) line) where
   module _ (hit : ℕ) (call : Call) (value : List ℕ) (moment : ℕ) (placed : Member hit (places history later kept)) (found : slice_get (history ++ later) hit ≡ Some call) (is : call.act ≡ Hit value moment) (r : ReadsIn (history ++ later) line hit call.key value moment) where

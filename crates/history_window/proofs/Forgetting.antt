@@ -1,10 +1,9 @@
 -- What is acceptable without the calls that a window forgets is so with them.
-use Rattle.std.proofs.Common.{◌≡◌, ◌≢◌, ℕ, ◌+◌, ◌<◌, ◌≤◌, Bool, true, false, not, Some, List, ◌++◌, length, sym, ◌∙◌, subst, arith, inl, inr}
+use Rattle.std.proofs.Common.{◌≡◌, ◌≢◌, ℕ, ◌<◌, ◌≤◌, Bool, true, false, not, Some, List, ◌++◌, length, sym, ◌∙◌, subst, arith, inl, inr}
 use Rattle.std.specs.Prelude.{All, filter, slice_get}
 use Rattle.std.specs.List.{filter_map}
 use Rattle.std.proofs.lemmas.Bool.{cases_Bool, cases_lt, not-true, not_from_false}
 use Rattle.std.proofs.lemmas.List.{length-append}
-use Rattle.trace_file.specs.declared.act.Act.TheVariants.{Hit}
 use Rattle.trace_file.specs.declared.call.Call.{Call}
 use Rattle.certificate_checker.specs.Orders.{in_order}
 use Rattle.certificate_checker.proofs.public_laws.Accepting.{found_at}
@@ -15,7 +14,7 @@ use Rattle.history_window.specs.Windows.{IsWindow, Stays}
 use Rattle.history_window.proofs.Ahead.{Once, ahead_filter, filter_ahead, first_member, second_member}
 use Rattle.history_window.proofs.Joining.{joined_acceptable, lapses_both, order_of, tail_reads}
 use Rattle.history_window.proofs.Keeping.{at_history, at_whole, in_list, is_in, kept_calls, late_placed, list_in, places, places_once, places_within}
-use Rattle.history_window.proofs.Lining.{AgreesLine, IsLawfulLine, ReadsIn, agrees_to, lawful_to}
+use Rattle.history_window.proofs.Lining.{AgreesLine, IsLawfulLine, agrees_to, lawful_to}
 use Rattle.history_window.proofs.Picking.{IsLineOf, line_of, run, run_from}
 use Rattle.history_window.proofs.Restoring.{not_before, reads_forgotten}
 

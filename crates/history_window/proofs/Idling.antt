@@ -1,29 +1,23 @@
 -- Spent hits and what they read.
-use Rattle.std.proofs.Common.{◌≡◌, ◌≢◌, ℕ, ◌+◌, ◌<◌, ◌≤◌, ◌||◌, Bool, true, false, not, Some, List, [], ◌∷◌, ◌++◌, length, refl, sym, ap, ◌∙◌, subst, arith, inl, inr, ◌⊎◌}
-use Rattle.std.specs.Prelude.{All, filter, slice_get}
-use Rattle.std.specs.List.{filter_map}
-use Rattle.std.proofs.lemmas.Bool.{cases_Bool, cases_eq, cases_lt, not-true, not_from_false, not_from_true, or_cases, or_left, or_right}
-use Rattle.std.proofs.lemmas.List.{length-append}
+use Rattle.std.proofs.Common.{◌≡◌, ℕ, ◌<◌, ◌≤◌, not, Some, List, [], ◌∷◌, ◌++◌, length, refl, sym, ap, ◌∙◌, subst, arith, inl, inr, ◌⊎◌}
+use Rattle.std.specs.Prelude.{All, slice_get}
+use Rattle.std.proofs.lemmas.Bool.{cases_lt}
 use Rattle.std.proofs.lemmas.Option.{same_Some, slice_get_within}
 use Rattle.trace_file.specs.declared.act.Act.{Act}
 use Rattle.trace_file.specs.declared.act.Act.TheVariants.{Put, Remove, Hit, Miss}
 use Rattle.trace_file.specs.declared.call.Call.{Call}
-use Rattle.certificate_checker.specs.Deeds.{deed_of}
-use Rattle.certificate_checker.specs.Latest.{IsWrite, Writes}
-use Rattle.certificate_checker.specs.Orders.{Precedes, in_order}
+use Rattle.certificate_checker.specs.Latest.{IsWrite}
+use Rattle.certificate_checker.specs.Orders.{in_order}
 use Rattle.certificate_checker.proofs.public_laws.Accepting.{found_at}
-use Rattle.certificate_checker.proofs.public_laws.Listing.{Member, all_member, filter_member, member_all, member_at, member_contained, member_either, member_filter, member_left, member_right, pairs_append, pairs_filter, pairs_from}
-use Rattle.certificate_finder.specs.Spots.{is_miss}
-use Rattle.certificate_finder.specs.Turns.{IsHit, WritesAt, end_at}
-use Rattle.history_window.specs.Laws.{LinesAreAcceptable}
+use Rattle.certificate_checker.proofs.public_laws.Listing.{Member, all_member, member_at, member_left}
+use Rattle.certificate_finder.specs.Turns.{WritesAt, end_at}
 use Rattle.history_window.specs.Spent.{AreUnspent, IsSpent}
 use Rattle.history_window.specs.Standing.{Acceptable, StartFrom}
-use Rattle.history_window.proofs.Ahead.{Ahead, Once, ahead_across, ahead_append, ahead_filter, ahead_right, filter_ahead, first_member, pairs_ahead, second_member}
+use Rattle.history_window.proofs.Ahead.{Once}
 use Rattle.history_window.proofs.CallLemmas.{end_is, no_write, put_writes}
-use Rattle.history_window.proofs.Joining.{apart, joined_acceptable, lapses_both, order_of, tail_reads}
-use Rattle.history_window.proofs.Keeping.{at_history, at_whole, holds_kept, in_later, in_list, is_in, kept_below, kept_calls, kept_holds, late_placed, list_in, places, places_once, places_within, starts_late}
-use Rattle.history_window.proofs.Lining.{AgreesLine, IsLawfulLine, ReadsIn, agrees_to, lawful_to}
-use Rattle.history_window.proofs.Picking.{IsLineOf, line_of, run, run_from}
+use Rattle.history_window.proofs.Keeping.{at_history, holds_kept, late_placed}
+use Rattle.history_window.proofs.Lining.{AgreesLine, IsLawfulLine, ReadsIn}
+use Rattle.history_window.proofs.Picking.{run}
 use Rattle.history_window.proofs.Showing.{shown_acceptable}
 
 -- a call that writes is no spent hit
@@ -116,8 +110,7 @@ module _ (bound : ℕ) (history later : List Call) (kept : List ℕ) (unspent : 
               let mine = same_Some other call (sym found ∙ ap (slice_get history) same ∙ at) in
               let acts : Hit v t ≡ Hit value moment = sym hits_it ∙ ap (λ (c : Call). c.act) mine ∙ is in
               let values : value ≡ v = cc in
-              let moments : moment ≡ t = cc in
-              (
+              let moments : moment ≡ t = cc in (
                 subst (λ h. ReadsIn history line h other.key v t) (sym same) (subst (λ (c : Call). ReadsIn history line p c.key v t) (sym mine) (subst (λ u. ReadsIn history line p call.key v u) moments (subst (λ w. ReadsIn history line p call.key w moment) values r))),
                 inl refl,
               )

@@ -1,11 +1,11 @@
 -- Two lines of a history's calls, one after the other, make it acceptable.
-use Rattle.std.proofs.Common.{◌≡◌, ◌≢◌, ℕ, ◌<◌, ◌≤◌, false, Some, List, ◌++◌, length, refl, ap, ◌∙◌, arith, inl, inr, ◌⊎◌}
+use Rattle.std.proofs.Common.{◌≡◌, ◌≢◌, ℕ, ◌<◌, ◌≤◌, false, Some, List, ◌++◌, length, refl, arith, inl, inr}
 use Rattle.std.specs.Prelude.{All, slice_get}
 use Rattle.std.proofs.lemmas.Bool.{cases_lt}
 use Rattle.trace_file.specs.declared.act.Act.TheVariants.{Hit}
 use Rattle.trace_file.specs.declared.call.Call.{Call}
 use Rattle.certificate_checker.specs.Orders.{IsOrder, Precedes}
-use Rattle.certificate_checker.proofs.public_laws.Listing.{Member, all_member, contained_member, member_all, member_either, pairs_from, pairs_to}
+use Rattle.certificate_checker.proofs.public_laws.Listing.{Member, all_member, contained_member, member_all, member_either, pairs_to}
 use Rattle.certificate_finder.specs.Spots.{AreOfOne, is_miss}
 use Rattle.certificate_finder.specs.Turns.{end_at, start_at}
 use Rattle.history_window.specs.Laws.{KeysAgree, LinesAreAcceptable}

@@ -14,3 +14,4 @@ mod Joining
 mod Forgetting
 mod Idling
 mod Spending
+mod Examples

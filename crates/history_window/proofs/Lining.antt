@@ -4,17 +4,18 @@ use Rattle.std.specs.Prelude.{map, option_map, slice_get}
 use Rattle.std.proofs.lemmas.List.{map-append}
 use Rattle.std.proofs.lemmas.List.Elements.{filter_map-append}
 use Rattle.std.proofs.lemmas.Option.{slice_get-map}
-use Rattle.record_pages.specs.Expiry.{is_live}
+use Rattle.record_pages.specs.declared.timed_value.TimedValue.{TimedValue}
+use Rattle.record_pages.specs.Expiry.{is_live, timed}
 use Rattle.trace_file.specs.declared.act.Act.TheVariants.{Put, Hit}
 use Rattle.trace_file.specs.declared.call.Call.{Call}
 use Rattle.certificate_checker.specs.Deeds.{Deed, deed_of}
-use Rattle.certificate_checker.specs.Latest.{IsLawful, IsLive, Writes}
+use Rattle.certificate_checker.specs.Latest.{IsLatest, IsLawful, IsLive, Writes}
 use Rattle.certificate_checker.specs.Orders.{Agrees, Precedes, in_order}
 use Rattle.certificate_checker.proofs.public_laws.Laying.{picked-map}
 use Rattle.certificate_checker.proofs.public_laws.Layouts.{picked_pairs}
 use Rattle.certificate_checker.proofs.public_laws.Listing.{Member, all_member, member_all, member_either, member_map, member_picked, member_right, pairs_from, pairs_picked, pairs_to, picked_member}
 use Rattle.history_window.proofs.Ahead.{Ahead, Once, ahead_across, ahead_either, ahead_left, ahead_pairs, ahead_right, ahead_split, ahead_strict, member_cut, pairs_ahead}
-use Rattle.history_window.proofs.Parting.{found_mapped, parted}
+use Rattle.history_window.proofs.Parting.{Parted, found_mapped, parted}
 
 -- what a hit reads in a line: a put of its key and value, live at its moment, that stands ahead of it, and after each other write of the key that does
 pub record ReadsIn (history : List Call) (line : List ℕ) (hit : ℕ) (key value : List ℕ) (moment : ℕ) : Type 0 where
@@ -50,18 +51,47 @@ deed_from history positions deed m =
     let p = member_picked (slice_get history) positions call.0 call.1 in
     (p.0, call.0, p.1, p.2, call.2)
 
+-- ---- a line with a place before a hit cut out
+
+module _ (line early between back : List ℕ) (put hit : ℕ) (split : line ≡ (early ++ put ∷ between) ++ hit ∷ back) where
+  abbrev whole : List ℕ
+  whole = (early ++ put ∷ between) ++ hit ∷ back
+
+  front_ahead : (p : ℕ) → Member p (early ++ put ∷ between) → Ahead line p hit
+  front_ahead p m = subst (λ l. Ahead l p hit) (sym split) (ahead_across (early ++ put ∷ between) (hit ∷ back) p hit m (inl refl))
+
+  put_ahead : Ahead line put hit
+  put_ahead = front_ahead put (member_right early (put ∷ between) put (inl refl))
+
+  early_ahead : (p : ℕ) → Member p early → Ahead line p put
+  early_ahead p m = subst (λ l. Ahead l p put) (sym split) (ahead_left (early ++ put ∷ between) (hit ∷ back) p put (ahead_across early (put ∷ between) p put m (inl refl)))
+
+  between_behind : (p : ℕ) → Member p between → Ahead line put p
+  between_behind p m = subst (λ l. Ahead l put p) (sym split) (ahead_left (early ++ put ∷ between) (hit ∷ back) put p (ahead_right early (put ∷ between) put p (inl (refl, m))))
+
+  between_ahead : (p : ℕ) → Member p between → Ahead line p hit
+  between_ahead p m = front_ahead p (member_right early (put ∷ between) p (inr m))
+
 module _ (history : List Call) (line : List ℕ) (once : Once line) where
   -- ---- from lawful deeds
 
-  pub lawful_to : IsLawful (map deed_of (in_order history line)) → IsLawfulLine history line
-  lawful_to lawful hit call value moment m found is =
-      let cut = member_cut line hit m in
-      let front = cut.0 in
-      let deeds = ap (λ l. map deed_of (in_order history l)) cut.2 ∙ deeds_cut history front cut.1 hit call found in
-      let live = lawful (map deed_of (in_order history front)) (map deed_of (in_order history cut.1)) (deed_of call) value moment deeds is in
-      let apart = parted (slice_get (map deed_of history)) front live.latest.before live.latest.put live.latest.after (picked-map deed_of history front ∙ live.latest.split) in
+  -- a write that stands ahead of a hit is ahead of what the hit reads, or it itself
+  last_write : (front back : List ℕ) (hit : ℕ) (key value : List ℕ) (moment : ℕ) (live : IsLive (map deed_of (in_order history front)) key value moment) (apart : Parted (slice_get (map deed_of history)) front live.latest.before live.latest.put live.latest.after) → line ≡ (apart.front ++ apart.at ∷ apart.back) ++ hit ∷ back → (other : ℕ) (write : Call) → slice_get history other ≡ Some write → Writes (deed_of write) key → Member other (apart.front ++ apart.at ∷ apart.back) → (other ≡ apart.at) ⊎ Ahead line other apart.at
+  last_write front back hit key value moment live apart whole other write at writes there = elim (member_either apart.front (apart.at ∷ apart.back) other there) [
+    | inl early ↦ inr (early_ahead line apart.front apart.back back apart.at hit whole other early)
+    | inr rest ↦ elim rest [
+      | inl same ↦ inl same
+      | inr late ↦
+          let deed : slice_get (map deed_of history) other ≡ Some (deed_of write) = slice_get-map deed_of history other ∙ ap (option_map deed_of) at in
+          let member = picked_member (slice_get (map deed_of history)) apart.back other (deed_of write) late deed in
+          absurd {A = (other ≡ apart.at) ⊎ Ahead line other apart.at} (all_member (λ (d : Deed). ¬ Writes d key) live.latest.after (deed_of write) live.latest.not_written (subst (Member (deed_of write)) apart.rest member) writes)
+    ]
+  ]
+
+  reads_at : (front back : List ℕ) (hit : ℕ) (key value : List ℕ) (moment : ℕ) (live : IsLive (map deed_of (in_order history front)) key value moment) (apart : Parted (slice_get (map deed_of history)) front live.latest.before live.latest.put live.latest.after) → line ≡ front ++ hit ∷ back → ReadsIn history line hit key value moment
+  reads_at front back hit key value moment live apart split =
       let put = found_mapped deed_of history apart.at live.latest.put apart.is in
-      let whole : line ≡ (apart.front ++ apart.at ∷ apart.back) ++ hit ∷ cut.1 = cut.2 ∙ ap (λ l. l ++ hit ∷ cut.1) apart.split in
+      let whole : line ≡ (apart.front ++ apart.at ∷ apart.back) ++ hit ∷ back = split ∙ ap (λ l. l ++ hit ∷ back) apart.split in
       record {
         put = apart.at;
         call = put.0;
@@ -70,21 +100,21 @@ module _ (history : List Call) (line : List ℕ) (once : Once line) where
         one_key = ap (λ (d : Deed). d.key) put.2 ∙ live.latest.at_key;
         is = ap (λ (d : Deed). d.act) put.2 ∙ live.latest.value_put;
         live = live.live;
-        ahead = subst (λ l. Ahead l apart.at hit) (sym whole) (ahead_across (apart.front ++ apart.at ∷ apart.back) (hit ∷ cut.1) apart.at hit (member_right apart.front (apart.at ∷ apart.back) apart.at (inl refl)) (inl refl));
-        last = λ other write at writes a.
-            let there : Member other (apart.front ++ apart.at ∷ apart.back) = subst (Member other) apart.split (ahead_split line front cut.1 other hit cut.2 once a) in
-            elim (member_either apart.front (apart.at ∷ apart.back) other there) [
-              | inl early ↦
-                  inr (subst (λ l. Ahead l other apart.at) (sym whole) (ahead_left (apart.front ++ apart.at ∷ apart.back) (hit ∷ cut.1) other apart.at (ahead_across apart.front (apart.at ∷ apart.back) other apart.at early (inl refl))))
-              | inr rest ↦ elim rest [
-                | inl same ↦ inl same
-                | inr late ↦
-                    let deed : slice_get (map deed_of history) other ≡ Some (deed_of write) = slice_get-map deed_of history other ∙ ap (option_map deed_of) at in
-                    let member = picked_member (slice_get (map deed_of history)) apart.back other (deed_of write) late deed in
-                    absurd (all_member (λ (d : Deed). ¬ Writes d call.key) live.latest.after (deed_of write) live.latest.not_written (subst (Member (deed_of write)) apart.rest member) writes)
-              ]
-            ];
+        ahead = put_ahead line apart.front apart.back back apart.at hit whole;
+        last = λ other write at writes a. last_write front back hit key value moment live apart whole other write at writes (subst (Member other) apart.split (ahead_split line front back other hit split once a));
       }
+
+  -- the positions of the deeds before and after the latest put
+  apart_of : (front : List ℕ) (key : List ℕ) (value : TimedValue) (latest : IsLatest (map deed_of (in_order history front)) key value) → Parted (slice_get (map deed_of history)) front latest.before latest.put latest.after
+  apart_of front key value latest = parted (slice_get (map deed_of history)) front latest.before latest.put latest.after (picked-map deed_of history front ∙ latest.split)
+
+  pub lawful_to : IsLawful (map deed_of (in_order history line)) → IsLawfulLine history line
+  lawful_to lawful hit call value moment m found is =
+      let cut = member_cut line hit m in
+      let deeds = ap (λ l. map deed_of (in_order history l)) cut.2 ∙ deeds_cut history cut.0 cut.1 hit call found in
+      let live = lawful (map deed_of (in_order history cut.0)) (map deed_of (in_order history cut.1)) (deed_of call) value moment deeds is in
+      let apart = apart_of cut.0 call.key (timed value live.expires) live.latest in
+      reads_at cut.0 cut.1 hit call.key value moment live apart cut.2
 
   -- ---- to lawful deeds
 
@@ -103,8 +133,8 @@ module _ (history : List Call) (line : List ℕ) (once : Once line) where
           value_put = r.is;
           not_written = member_all (λ deed. ¬ Writes deed key) (map deed_of (in_order history cut.1)) (λ deed m writes.
               let of = deed_from history cut.1 deed m in
-              let later : Ahead line r.put of.0 = subst (λ l. Ahead l r.put of.0) (sym whole) (ahead_left (cut.0 ++ r.put ∷ cut.1) (hit ∷ back) r.put of.0 (ahead_right cut.0 (r.put ∷ cut.1) r.put of.0 (inl (refl, of.2)))) in
-              let early : Ahead line of.0 hit = subst (λ l. Ahead l of.0 hit) (sym whole) (ahead_across (cut.0 ++ r.put ∷ cut.1) (hit ∷ back) of.0 hit (member_right cut.0 (r.put ∷ cut.1) of.0 (inr of.2)) (inl refl)) in
+              let later = between_behind line cut.0 cut.1 back r.put hit whole of.0 of.2 in
+              let early = between_ahead line cut.0 cut.1 back r.put hit whole of.0 of.2 in
               elim (r.last of.0 of.1 of.3 (subst (λ d. Writes d key) of.4 writes) early) [
                 | inl same ↦ pairs_ahead (λ (p q : ℕ). p ≢ q) line r.put of.0 once later (sym same)
                 | inr sooner ↦ ahead_strict line r.put of.0 once later sooner

@@ -1,6 +1,6 @@
 -- A history that is acceptable stays so without calls that no hit reads.
 use Rattle.std.proofs.Common.{◌≡◌, ◌≢◌, ℕ, ◌<◌, ◌≤◌, Bool, Some, List, ◌++◌, length, subst, inl, inr}
-use Rattle.std.specs.Prelude.{All, filter, slice_get}
+use Rattle.std.specs.Prelude.{filter, slice_get}
 use Rattle.trace_file.specs.declared.act.Act.TheVariants.{Hit}
 use Rattle.trace_file.specs.declared.call.Call.{Call}
 use Rattle.certificate_checker.specs.Orders.{in_order}

@@ -1,10 +1,10 @@
 -- What is acceptable without spent hits is so with them.
-use Rattle.std.proofs.Common.{◌≡◌, ◌≢◌, ℕ, ◌+◌, ◌<◌, ◌≤◌, ◌||◌, Bool, true, false, not, Some, List, [], ◌∷◌, ◌++◌, length, refl, sym, ap, ◌∙◌, subst, arith, inl, inr, ◌⊎◌}
+use Rattle.std.proofs.Common.{◌≡◌, ◌≢◌, ℕ, ◌<◌, ◌≤◌, ◌||◌, Bool, true, false, not, Some, List, ◌++◌, length, refl, sym, ap, ◌∙◌, subst, arith, inl, inr, ◌⊎◌}
 use Rattle.std.specs.Prelude.{All, filter, slice_get}
 use Rattle.std.specs.List.{filter_map}
-use Rattle.std.proofs.lemmas.Bool.{cases_Bool, cases_eq, cases_lt, not-true, not_from_false, not_from_true, or_cases, or_left, or_right}
+use Rattle.std.proofs.lemmas.Bool.{cases_Bool, cases_eq, cases_lt, not-true, not_from_false, or_cases, or_left, or_right}
 use Rattle.std.proofs.lemmas.List.{length-append}
-use Rattle.std.proofs.lemmas.Option.{same_Some, slice_get_within}
+use Rattle.std.proofs.lemmas.Option.{same_Some}
 use Rattle.trace_file.specs.declared.act.Act.{Act}
 use Rattle.trace_file.specs.declared.act.Act.TheVariants.{Put, Remove, Hit, Miss}
 use Rattle.trace_file.specs.declared.call.Call.{Call}
@@ -12,13 +12,13 @@ use Rattle.certificate_checker.specs.Deeds.{deed_of}
 use Rattle.certificate_checker.specs.Latest.{IsWrite, Writes}
 use Rattle.certificate_checker.specs.Orders.{Precedes, in_order}
 use Rattle.certificate_checker.proofs.public_laws.Accepting.{found_at}
-use Rattle.certificate_checker.proofs.public_laws.Listing.{Member, all_member, filter_member, member_all, member_at, member_contained, member_either, member_filter, member_left, member_right, pairs_append, pairs_filter, pairs_from}
+use Rattle.certificate_checker.proofs.public_laws.Listing.{Member, all_member, filter_member, member_all, member_contained, member_either, member_filter, member_left, member_right, pairs_append, pairs_filter, pairs_from}
 use Rattle.certificate_finder.specs.Spots.{is_miss}
-use Rattle.certificate_finder.specs.Turns.{IsHit, WritesAt, end_at}
+use Rattle.certificate_finder.specs.Turns.{WritesAt}
 use Rattle.history_window.specs.Laws.{LinesAreAcceptable}
 use Rattle.history_window.specs.Spent.{AreUnspent, IsSpent}
 use Rattle.history_window.specs.Standing.{Acceptable, StartFrom}
-use Rattle.history_window.proofs.Ahead.{Ahead, Once, ahead_across, ahead_append, ahead_filter, ahead_right, filter_ahead, first_member, pairs_ahead, second_member}
+use Rattle.history_window.proofs.Ahead.{Ahead, Once, ahead_across, ahead_append, ahead_filter, filter_ahead, first_member, pairs_ahead, second_member}
 use Rattle.history_window.proofs.CallLemmas.{end_is, no_write, put_writes}
 use Rattle.history_window.proofs.Idling.{IsIdle, Sources, hit_over, idle_spent, lapse, put_over, sole_is, sources_of, spent_key}
 use Rattle.history_window.proofs.Joining.{apart, joined_acceptable, lapses_both, order_of, tail_reads}
@@ -276,9 +276,9 @@ module _ (bound : ℕ) (history later : List Call) (kept : List ℕ) (unspent : 
       elim (cases_lt call.end bound) [
         | inl less ↦ less
         | inr enough ↦ absurd (idle_spent bound history later kept unspent late line once below each intervals agrees lawful s idle (λ spent.
-        let over = put_over bound history later kept unspent late line once below each intervals agrees lawful s idle spent in
-        let e = ap (λ (c : Call). c.end) put in
-        omega (arith, over, e, enough)))
+            let over = put_over bound history later kept unspent late line once below each intervals agrees lawful s idle spent in
+            let e = ap (λ (c : Call). c.end) put in
+            omega (arith, over, e, enough)))
       ]
 
   -- in the line of what is kept, no write of its key stands ahead of such a put

@@ -3,4 +3,6 @@
 
 mod laws;
 
-pub use laws::{lines_are_acceptable, standing_chains, standing_grows, unspent_stand, window_stands};
+pub use laws::{
+    lines_are_acceptable, standing_chains, standing_grows, unspent_stand, window_stands,
+};
