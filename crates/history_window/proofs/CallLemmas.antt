@@ -1,5 +1,5 @@
 -- Calls at positions, and the tests of their keys.
-use Rattle.std.proofs.Common.{◌≡◌, ℕ, Bool, true, false, ◌&&◌, not, Some, None, List, nat_eq, refl, sym, ap, ◌∙◌, subst, arith}
+use Rattle.std.proofs.Common.{◌≡◌, ℕ, ◌≤◌, Bool, true, false, ◌&&◌, not, Some, None, List, nat_eq, refl, sym, ap, ◌∙◌, subst, arith, inl, inr}
 use Rattle.std.specs.Prelude.{slice_get}
 use Rattle.std.specs.Cmp.Lexicographic.{pointwise, bytes_decides}
 use Rattle.std.specs.Option.{option_map_or}
@@ -13,7 +13,7 @@ use Rattle.certificate_checker.specs.Latest.{IsWrite}
 use Rattle.certificate_checker.specs.Orders.{Precedes}
 use Rattle.certificate_finder.specs.Spots.{AreOfOne, is_at, is_miss, is_of}
 use Rattle.certificate_finder.specs.Turns.{end_at, start_at}
-use Rattle.history_window.specs.Windows.{IsBefore}
+use Rattle.history_window.specs.Windows.{HasLate, IsBefore}
 
 pub write_is_no_miss : (act : Act) → IsWrite act → is_miss act ≡ false
 write_is_no_miss (Put value expires) w = refl
@@ -94,6 +94,13 @@ before_of history p q one other at_p at_q before =
     let till = end_is history p one at_p in
     let from = start_is history q other at_q in
     omega (arith, before, till, from)
+
+-- a hit that some late put has the value of does not precede the cut
+pub late_begun : (history : List Call) (key value : List ℕ) (cut hit : ℕ) → start_at history cut ≤ end_at history cut → HasLate history key value cut hit → ¬ IsBefore history hit cut
+late_begun history key value cut hit span late before = elim late.late [
+  | inl same ↦ late.begun (subst (λ p. IsBefore history hit p) (sym same) before)
+  | inr after ↦ late.begun (omega (arith, before, span, after))
+]
 
 -- ---- hits, puts and writes are apart
 

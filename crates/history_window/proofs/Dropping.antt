@@ -1,6 +1,6 @@
 -- What is acceptable stays so without the calls that a window forgets.
-use Rattle.std.proofs.Common.{◌≡◌, ◌≢◌, ℕ, ◌<◌, Some, List, ◌++◌, length, refl, sym, ap, ◌∙◌, subst, arith, inl, inr}
-use Rattle.std.specs.Prelude.{slice_get}
+use Rattle.std.proofs.Common.{◌≡◌, ◌≢◌, ℕ, ◌<◌, ◌≤◌, Some, List, ◌++◌, length, refl, sym, ap, ◌∙◌, subst, arith, inl, inr}
+use Rattle.std.specs.Prelude.{All, slice_get}
 use Rattle.std.proofs.lemmas.Bool.{cases_eq, cases_lt}
 use Rattle.std.proofs.lemmas.Option.{same_Some, slice_get_within}
 use Rattle.trace_file.specs.declared.act.Act.TheVariants.{Put, Hit}
@@ -8,19 +8,22 @@ use Rattle.trace_file.specs.declared.call.Call.{Call}
 use Rattle.certificate_checker.specs.Deeds.{deed_of}
 use Rattle.certificate_checker.specs.Latest.{Writes}
 use Rattle.certificate_checker.specs.Orders.{Precedes, in_order}
-use Rattle.certificate_checker.proofs.public_laws.Listing.{Member, member_either, member_left}
+use Rattle.certificate_checker.proofs.public_laws.Listing.{Member, all_member, member_at, member_either, member_left}
 use Rattle.certificate_finder.specs.Spots.{is_miss}
 use Rattle.history_window.specs.Standing.{Acceptable, StartFrom}
 use Rattle.history_window.specs.Windows.{IsBefore, IsLastCut, IsWindow, ReadsLate, Stays}
 use Rattle.history_window.proofs.Ahead.{Once}
-use Rattle.history_window.proofs.CallLemmas.{end_is, no_write, precedes_of, put_writes, same_value}
-use Rattle.history_window.proofs.Lining.{AgreesLine, ReadsIn, ahead_of_write}
+use Rattle.history_window.proofs.CallLemmas.{end_is, late_begun, no_write, precedes_of, put_writes, same_value, start_is}
+use Rattle.history_window.proofs.Lining.{AgreesLine, ReadsIn, ahead_of_write, unreplaced}
 use Rattle.history_window.proofs.Showing.{shown_acceptable}
 use Rattle.history_window.proofs.Picking.{run, run_from}
 use Rattle.history_window.proofs.Keeping.{at_history, at_whole, kept_holds, late_placed, places, starts_late, holds_kept}
 
-module _ (bound : ℕ) (history later : List Call) (kept : List ℕ) (window : IsWindow bound history kept) (late : StartFrom bound later) (line : List ℕ) (once : Once line) (each : (p : ℕ) → p < length (history ++ later) → Member p line) (agrees : AgreesLine (history ++ later) line) where
+module _ (bound : ℕ) (history later : List Call) (kept : List ℕ) (window : IsWindow bound history kept) (late : StartFrom bound later) (line : List ℕ) (once : Once line) (each : (p : ℕ) → p < length (history ++ later) → Member p line) (agrees : AgreesLine (history ++ later) line) (intervals : All (λ (call : Call). call.start ≤ call.end) (history ++ later)) where
   module _ (hit : ℕ) (call : Call) (value : List ℕ) (moment : ℕ) (placed : Member hit (places history later kept)) (found : slice_get (history ++ later) hit ≡ Some call) (is : call.act ≡ Hit value moment) (r : ReadsIn (history ++ later) line hit call.key value moment) where
+    spans : (p : ℕ) (c : Call) → slice_get (history ++ later) p ≡ Some c → c.start ≤ c.end
+    spans p c at = all_member (λ (d : Call). d.start ≤ d.end) (history ++ later) c intervals (member_at (history ++ later) p c at)
+
     -- the hit does not follow a cut that what it reads precedes
     not_after : (cut : ℕ) (last : IsLastCut bound history call.key cut) → cut ≢ r.put → Precedes r.call last.is.writes.call → hit ≢ cut → ¬ Precedes last.is.writes.call call
     not_after cut last other before apart =
@@ -72,11 +75,23 @@ module _ (bound : ℕ) (history later : List Call) (kept : List ℕ) (window : I
             let one = same_Some reads.is.call call (sym reads.is.at ∙ here) in
             let act : call.act ≡ Hit reads.value reads.moment = ap (λ (c : Call). c.act) (sym one) ∙ reads.is.is in
             let same = same_value call.act value reads.value moment reads.moment is act in
-            last.is.clear hit reads.value reads.moment reads.is reads.begun follows
+            let write_at = last.is.writes.at in
+            let write = last.is.writes.call in
+            let from = start_is history cut write write_at in
+            let till = end_is history cut write write_at in
+            let span = spans cut write (at_whole history later cut write write_at) in
+            last.is.clear hit reads.value reads.moment reads.is
+            (late_begun history call.key reads.value cut hit (omega (arith, from, till, span)) reads.late) follows
             (record {
               put = r.put;
               is = record { call = r.call; at = put_at; puts = record { one_key = r.one_key; expires = r.expires; is = r.is ∙ ap (λ v. Put v r.expires) same } };
               early = early;
+              unreplaced = λ other writes before after.
+                  let there = at_whole history later other writes.call writes.at in
+                  unreplaced (history ++ later) line once agrees hit other call writes.call call.key value moment r found is there writes.writes
+                  (each hit (slice_get_within (history ++ later) hit call found)) (each other (slice_get_within (history ++ later) other writes.call there))
+                  (spans r.put r.call r.at)
+                  (precedes_of history r.put other r.call writes.call put_at writes.at before) (precedes_of history other hit writes.call call writes.at here after);
             })
             reads.late
 
@@ -107,4 +122,4 @@ module _ (bound : ℕ) (history later : List Call) (kept : List ℕ) (window : I
 -- a history without what a window forgets is acceptable if the whole one is
 pub kept_acceptable : (bound : ℕ) (history later : List Call) (kept : List ℕ) → IsWindow bound history kept → StartFrom bound later → Acceptable (history ++ later) → Acceptable (in_order history kept ++ later)
 kept_acceptable bound history later kept window late whole =
-    shown_acceptable history later (Stays bound history) kept window (λ line once each agrees. put_placed bound history later kept window late line once each agrees) whole
+    shown_acceptable history later (Stays bound history) kept window (λ line once each agrees intervals. put_placed bound history later kept window late line once each agrees intervals) whole

@@ -10,7 +10,7 @@ use Rattle.certificate_checker.specs.Latest.{IsWrite}
 use Rattle.certificate_checker.proofs.public_laws.Listing.{Member, contained_member, member_all, member_contained, pairs_to}
 use Rattle.certificate_finder.specs.Turns.{IsHit, WritesAt, end_at, start_at}
 use Rattle.history_window.specs.Windows.{HasEarly, HasLate, IsBefore, IsCut, IsLastCut, IsPut, IsWindow, ReadsLate, Stays}
-use Rattle.history_window.proofs.CallLemmas.{no_write}
+use Rattle.history_window.proofs.CallLemmas.{late_begun, no_write}
 
 -- a put and a hit of a value at one key, with their starts and ends
 abbrev key : List ℕ
@@ -91,7 +91,7 @@ replaced_cut = record {
     alone (suc (suc zero)) writes apart = absurd (apart refl)
     alone (suc (suc (suc n))) writes apart = absurd (nothing_at replaced (suc (suc (suc n))) writes.call refl writes.at)
 
-    clear : (h : ℕ) (value : List ℕ) (moment : ℕ) → IsHit replaced h key value moment → ¬ IsBefore replaced h 2 → ¬ IsBefore replaced 2 h → HasEarly replaced key value 2 → ¬ HasLate replaced key value 2
+    clear : (h : ℕ) (value : List ℕ) (moment : ℕ) → IsHit replaced h key value moment → ¬ IsBefore replaced h 2 → ¬ IsBefore replaced 2 h → HasEarly replaced key value 2 h → ¬ HasLate replaced key value 2 h
     clear zero value moment hits not follows early late = no_hit_at replaced 0 (put 1 0 1) refl tt value moment hits
     clear (suc zero) value moment hits not follows early late = not (omega arith)
     clear (suc (suc zero)) value moment hits not follows early late = no_hit_at replaced 2 (put 2 4 5) refl tt value moment hits
@@ -128,7 +128,7 @@ replaced_window = record {
 
     all : (p : ℕ) → p < 3 → Stays 6 replaced p → Contains (2 ∷ []) p
     all zero less stays = absurd (goes 0 (put 1 0 1) refl (λ e. omega (arith, e)) (λ after. omega (arith, after)) (λ reads. no_hit_at replaced 0 (put 1 0 1) refl tt reads.value reads.moment reads.is) refl stays)
-    all (suc zero) less stays = absurd (goes 1 (hit 1 2 3) refl (λ e. omega (arith, e)) (λ after. omega (arith, after)) (λ reads. reads.begun (omega arith)) refl stays)
+    all (suc zero) less stays = absurd (goes 1 (hit 1 2 3) refl (λ e. omega (arith, e)) (λ after. omega (arith, after)) (λ reads. late_begun replaced key reads.value 2 1 (omega arith) reads.late (omega arith)) refl stays)
     all (suc (suc zero)) less stays = contained_member (2 ∷ []) 2 (inl refl)
     all (suc (suc (suc n))) less stays = absurd (omega (arith, less))
 
@@ -159,8 +159,8 @@ beside_spans (suc (suc (suc zero))) = omega arith
 beside_spans (suc (suc (suc (suc n)))) = omega arith
 
 -- no put of another value than 1 precedes the second put
-early_is : (value : List ℕ) → HasEarly beside key value 1 → (1 ∷ []) ≡ value
-early_is value early = go early.put early.is early.early
+early_is : (value : List ℕ) (h : ℕ) → HasEarly beside key value 1 h → (1 ∷ []) ≡ value
+early_is value h early = go early.put early.is early.early
   where
     go : (p : ℕ) → IsPut beside key value p → IsBefore beside p 1 → (1 ∷ []) ≡ value
     go zero is before = put_value beside 0 (put 1 0 1) (1 ∷ []) value never refl refl is
@@ -170,8 +170,8 @@ early_is value early = go early.put early.is early.early
     go (suc (suc (suc (suc n)))) is before = absurd (nothing_at beside (suc (suc (suc (suc n)))) is.call refl is.at)
 
 -- and it is the only late one
-late_is : (value : List ℕ) → HasLate beside key value 1 → (2 ∷ []) ≡ value
-late_is value late = elim late.late [
+late_is : (value : List ℕ) (h : ℕ) → HasLate beside key value 1 h → (2 ∷ []) ≡ value
+late_is value h late = elim late.late [
   | inl same ↦ put_value beside 1 (put 2 2 6) (2 ∷ []) value never refl refl (subst (IsPut beside key value) same late.is)
   | inr after ↦ go late.put late.is after
 ]
@@ -199,7 +199,7 @@ beside_cut = record {
     writes = record { call = put 2 2 6; at = refl; writes = (refl, tt) };
     over = omega arith;
     alone = alone;
-    clear = λ h value moment hits not follows early late. values_apart value (early_is value early) (late_is value late);
+    clear = λ h value moment hits not follows early late. values_apart value (early_is value h early) (late_is value h late);
   };
   last = last;
 }
@@ -225,8 +225,8 @@ new_hit_stays = record {
   no_miss = refl;
   uncut = λ cut last.
       let same = one_last 7 beside 1 cut beside_spans beside_cut last in
-      let late : HasLate beside key (2 ∷ []) 1 = record { put = 1; is = record { call = put 2 2 6; at = refl; puts = record { one_key = refl; expires = never; is = refl } }; late = inl refl } in
-      let reads : ReadsLate beside key 1 3 = record { value = 2 ∷ []; moment = 3; is = record { call = hit 2 3 5; at = refl; one_key = refl; is = refl }; begun = λ before. omega (arith, before); late = late } in
+      let late : HasLate beside key (2 ∷ []) 1 3 = record { put = 1; is = record { call = put 2 2 6; at = refl; puts = record { one_key = refl; expires = never; is = refl } }; late = inl refl; begun = λ before. omega (arith, before) } in
+      let reads : ReadsLate beside key 1 3 = record { value = 2 ∷ []; moment = 3; is = record { call = hit 2 3 5; at = refl; one_key = refl; is = refl }; late = late } in
       inr (inr (subst (λ c. ReadsLate beside key c 3) (sym same) reads));
 }
 
@@ -240,6 +240,6 @@ old_hit_goes stays =
         | inl after ↦ omega (arith, after)
         | inr late ↦
             let reads = subst (λ k. ReadsLate beside k 1 2) keys late in
-            values_apart reads.value (hit_value beside 2 (hit 1 3 4) (1 ∷ []) reads.value 3 reads.moment refl refl reads.is) (late_is reads.value reads.late)
+            values_apart reads.value (hit_value beside 2 (hit 1 3 4) (1 ∷ []) reads.value 3 reads.moment refl refl reads.is) (late_is reads.value 2 reads.late)
       ]
     ]

@@ -31,7 +31,7 @@ write_unspent bound history p call at writes spent =
 pub unspent_acceptable : (bound : ℕ) (history later : List Call) (kept : List ℕ) → AreUnspent bound history kept → Acceptable (history ++ later) → Acceptable (in_order history kept ++ later)
 unspent_acceptable bound history later kept unspent whole =
     let P : ℕ → Type 0 = λ p. ¬ IsSpent bound history p in
-    shown_acceptable history later P kept unspent (λ line once each agrees hit call value moment placed found is r. elim (cases_lt r.put (length history)) [
+    shown_acceptable history later P kept unspent (λ line once each agrees intervals hit call value moment placed found is r. elim (cases_lt r.put (length history)) [
       | inl below ↦
           let here = at_history history later r.put r.call below r.at in
           member_left kept (run (length history) (length later)) r.put (holds_kept history later P kept unspent r.put below (write_unspent bound history r.put r.call here (put_writes r.call.act value r.expires r.is)))

@@ -1,9 +1,9 @@
 -- Lawful lines of calls, by what stands ahead of what.
-use Rattle.std.proofs.Common.{◌≡◌, ◌≢◌, ℕ, IsTrue, Some, List, ◌∷◌, ◌++◌, refl, sym, ap, ◌∙◌, subst, inl, inr, ◌⊎◌}
+use Rattle.std.proofs.Common.{◌≡◌, ◌≢◌, ℕ, ◌≤◌, IsTrue, Some, List, ◌∷◌, ◌++◌, refl, sym, ap, ◌∙◌, subst, arith, inl, inr, ◌⊎◌}
 use Rattle.std.specs.Prelude.{map, option_map, slice_get}
 use Rattle.std.proofs.lemmas.List.{map-append}
 use Rattle.std.proofs.lemmas.List.Elements.{filter_map-append}
-use Rattle.std.proofs.lemmas.Option.{slice_get-map}
+use Rattle.std.proofs.lemmas.Option.{same_Some, slice_get-map}
 use Rattle.record_pages.specs.declared.timed_value.TimedValue.{TimedValue}
 use Rattle.record_pages.specs.Expiry.{is_live, timed}
 use Rattle.trace_file.specs.declared.act.Act.TheVariants.{Put, Hit}
@@ -15,6 +15,7 @@ use Rattle.certificate_checker.proofs.public_laws.Laying.{picked-map}
 use Rattle.certificate_checker.proofs.public_laws.Layouts.{picked_pairs}
 use Rattle.certificate_checker.proofs.public_laws.Listing.{Member, all_member, member_all, member_either, member_map, member_picked, member_right, pairs_from, pairs_picked, pairs_to, picked_member}
 use Rattle.history_window.proofs.Ahead.{Ahead, Once, ahead_across, ahead_either, ahead_left, ahead_pairs, ahead_right, ahead_split, ahead_strict, member_cut, pairs_ahead}
+use Rattle.history_window.proofs.CallLemmas.{no_write}
 use Rattle.history_window.proofs.Parting.{Parted, found_mapped, parted}
 
 -- what a hit reads in a line: a put of its key and value, live at its moment, that stands ahead of it, and after each other write of the key that does
@@ -175,3 +176,21 @@ module _ (history : List Call) (line : List ℕ) (once : Once line) where
           | inr sooner ↦ agrees cut r.put write r.call sooner at r.at before
         ])
   ]
+
+  -- and no write of the key stands between that and the hit in time
+  pub unreplaced : AgreesLine history line → (hit other : ℕ) (call write : Call) (key value : List ℕ) (moment : ℕ) (r : ReadsIn history line hit key value moment) → slice_get history hit ≡ Some call → call.act ≡ Hit value moment → slice_get history other ≡ Some write → Writes (deed_of write) key → Member hit line → Member other line → r.call.start ≤ r.call.end → Precedes r.call write → ¬ Precedes write call
+  unreplaced agrees hit other call write key value moment r at_hit is at writes there listed span before after = elim (ahead_either line other hit listed there apart) [
+    | inl first ↦ elim (r.last other write at writes first) [
+      | inl same ↦
+          let mine = same_Some write r.call (sym at ∙ ap (slice_get history) same ∙ r.at) in
+          let self : Precedes r.call r.call = subst (λ (c : Call). Precedes r.call c) mine before in
+          omega (arith, self, span)
+      | inr sooner ↦ agrees other r.put write r.call sooner at r.at before
+    ]
+    | inr later ↦ agrees hit other call write later at_hit at after
+  ]
+    where
+      apart : other ≢ hit
+      apart same =
+          let mine = same_Some write call (sym at ∙ ap (slice_get history) same ∙ at_hit) in
+          no_write call.act value moment is (subst (λ (c : Call). Writes (deed_of c) key) mine writes).1

@@ -14,8 +14,8 @@ use Rattle.certificate_finder.specs.Turns.{IsHit}
 use Rattle.history_window.specs.Standing.{StartFrom}
 use Rattle.history_window.specs.Windows.{IsBefore, IsLastCut, IsPut, IsWindow, ReadsLate, Stays}
 use Rattle.history_window.proofs.Ahead.{Ahead, Once, ahead_either, ahead_joined}
-use Rattle.history_window.proofs.CallLemmas.{before_of, end_is, no_write, precedes_of, put_writes}
-use Rattle.history_window.proofs.Lining.{AgreesLine, IsLawfulLine, ReadsIn, ahead_of_write}
+use Rattle.history_window.proofs.CallLemmas.{before_of, end_is, late_begun, no_write, precedes_of, put_writes, start_is}
+use Rattle.history_window.proofs.Lining.{AgreesLine, IsLawfulLine, ReadsIn, ahead_of_write, unreplaced}
 use Rattle.history_window.proofs.Picking.{run, run_from}
 use Rattle.history_window.proofs.Keeping.{at_history, in_later, kept_below, kept_holds, places, starts_late, holds_kept}
 
@@ -39,9 +39,16 @@ module _ (bound : ℕ) (history : List Call) (line : List ℕ) (once : Once line
     cut_at : slice_get history cut ≡ Some write
     cut_at = last.is.writes.at
 
+    not_before_cut : ¬ IsBefore history q cut
+    not_before_cut =
+        let from = start_is history cut write cut_at in
+        let till = end_is history cut write cut_at in
+        let span = lapse cut write cut_at in
+        late_begun history one.key reads.value cut q (omega (arith, from, till, span)) reads.late
+
     begun : write.start ≤ other.end
     begun = elim (cases_lt other.end write.start) [
-      | inl less ↦ absurd (reads.begun (before_of history q cut other write at_q cut_at less))
+      | inl less ↦ absurd (not_before_cut (before_of history q cut other write at_q cut_at less))
       | inr le ↦ le
     ]
 
@@ -59,8 +66,16 @@ module _ (bound : ℕ) (history : List Call) (line : List ℕ) (once : Once line
                 let less = precedes_of history cut q write other cut_at at_q after in
                 let span = lapse q other at_q in
                 omega (arith, less, span, before, beside) in
-                absurd (last.is.clear q reads.value reads.moment reads.is reads.begun follows
-                (record { put = r.put; is = record { call = r.call; at = r.at; puts = record { one_key = r.one_key; expires = r.expires; is = r.is } }; early = early })
+                absurd (last.is.clear q reads.value reads.moment reads.is not_before_cut follows
+                (record {
+                  put = r.put;
+                  is = record { call = r.call; at = r.at; puts = record { one_key = r.one_key; expires = r.expires; is = r.is } };
+                  early = early;
+                  unreplaced = λ another writes first second.
+                      unreplaced history line once agrees q another other writes.call one.key reads.value reads.moment r at_q is writes.at writes.writes
+                      (listed q other at_q) (listed another writes.call writes.at) (lapse r.put r.call r.at)
+                      (precedes_of history r.put another r.call writes.call r.at writes.at first) (precedes_of history another q writes.call other writes.at at_q second);
+                })
                 reads.late)
             | inr after ↦
                 let ahead : Ahead line cut r.put = elim (ahead_either line cut r.put (listed cut write cut_at) (listed r.put r.call r.at) (λ e. apart (sym e))) [
@@ -74,14 +89,11 @@ module _ (bound : ℕ) (history : List Call) (line : List ℕ) (once : Once line
     hit_outlives : (value : List ℕ) (moment : ℕ) → one.act ≡ Hit value moment → one.start ≤ write.end → Outlives history one.key cut p
     hit_outlives value moment is beside =
         let r = lawful p one value moment (listed p one at_p) at_p is in
-        let late : ¬ IsBefore history p cut = λ early.
-        let less = precedes_of history p cut one write at_p cut_at early in
-        let span = lapse p one at_p in
-        omega (arith, less, span, before, begun) in
+        let late : ¬ IsBefore history p r.put = λ early. agrees r.put p r.call one r.ahead r.at at_p (precedes_of history p r.put one r.call at_p r.at early) in
         let hit : IsHit history p one.key value moment = record { call = one; at = at_p; one_key = refl; is = is } in
         let put : IsPut history one.key value r.put = record { call = r.call; at = r.at; puts = record { one_key = r.one_key; expires = r.expires; is = r.is } } in
         elim (cases_eq r.put cut) [
-          | inl same ↦ inr (inr (record { value = value; moment = moment; is = hit; begun = late; late = record { put = r.put; is = put; late = inl same } }))
+          | inl same ↦ inr (inr (record { value = value; moment = moment; is = hit; late = record { put = r.put; is = put; late = inl same; begun = late } }))
           | inr apart ↦ elim (last.is.alone r.put (record { call = r.call; at = r.at; writes = (r.one_key, put_writes r.call.act value r.expires r.is) }) apart) [
             | inl early ↦
                 let no : p ≢ cut = λ same.
@@ -89,7 +101,7 @@ module _ (bound : ℕ) (history : List Call) (line : List ℕ) (once : Once line
                 no_write write.act value moment (ap (λ (c : Call). c.act) (sym mine) ∙ is) last.is.writes.writes.1 in
                 let first = ahead_of_write history line once agrees p cut write one.key value moment r cut_at last.is.writes.writes (listed p one at_p) (listed cut write cut_at) no (λ e. apart (sym e)) (precedes_of history r.put cut r.call write r.at cut_at early) in
                 absurd (agrees p q one other (ahead_joined line p cut q once first (cut_ahead beside)) at_p at_q before)
-            | inr after ↦ inr (inr (record { value = value; moment = moment; is = hit; begun = late; late = record { put = r.put; is = put; late = inr after } }))
+            | inr after ↦ inr (inr (record { value = value; moment = moment; is = hit; late = record { put = r.put; is = put; late = inr after; begun = late } }))
           ]
         ]
 
@@ -167,7 +179,8 @@ module _ (bound : ℕ) (history : List Call) (line : List ℕ) (once : Once line
         let mine = same_Some stays.call r.call (sym stays.at ∙ r.at) in
         let keys : stays.call.key ≡ call.key = ap (λ (c : Call). c.key) mine ∙ r.one_key in
         let put : IsPut history call.key value r.put = record { call = r.call; at = r.at; puts = record { one_key = r.one_key; expires = r.expires; is = r.is } } in
-        let first : ¬ Precedes call r.call = agrees r.put hit r.call call r.ahead r.at at in
+        let begun : ¬ IsBefore history hit r.put = λ early. agrees r.put hit r.call call r.ahead r.at at (precedes_of history hit r.put call r.call at r.at early) in
+        let mine_is : IsHit history hit call.key value moment = record { call = call; at = at; one_key = refl; is = is } in
         forgets hit call at not (record {
           call = call;
           at = at;
@@ -176,18 +189,9 @@ module _ (bound : ℕ) (history : List Call) (line : List ℕ) (once : Once line
               let write = last.is.writes.call in
               let cut_at = last.is.writes.at in
               elim (stays.uncut cut (subst (λ key. IsLastCut bound history key cut) (sym keys) last)) [
-                | inl same ↦
-                    let it = same_Some write r.call (sym cut_at ∙ ap (slice_get history) (sym same) ∙ r.at) in
-                    let begun : ¬ IsBefore history hit cut = λ early. first (subst (λ (c : Call). Precedes call c) it (precedes_of history hit cut call write at cut_at early)) in
-                    inr (inr (record { value = value; moment = moment; is = record { call = call; at = at; one_key = refl; is = is }; begun = begun; late = record { put = r.put; is = put; late = inl same } }))
+                | inl same ↦ inr (inr (record { value = value; moment = moment; is = mine_is; late = record { put = r.put; is = put; late = inl same; begun = begun } }))
                 | inr rest ↦ elim rest [
-                  | inl after ↦
-                      let begun : ¬ IsBefore history hit cut = λ early.
-                      let less = precedes_of history hit cut call write at cut_at early in
-                      let span = lapse cut write cut_at in
-                      let more = precedes_of history cut r.put write r.call cut_at r.at after in
-                      first (omega (arith, less, span, more)) in
-                      inr (inr (record { value = value; moment = moment; is = record { call = call; at = at; one_key = refl; is = is }; begun = begun; late = record { put = r.put; is = put; late = inr after } }))
+                  | inl after ↦ inr (inr (record { value = value; moment = moment; is = mine_is; late = record { put = r.put; is = put; late = inr after; begun = begun } }))
                   | inr reads ↦
                       let it = same_Some reads.is.call r.call (sym reads.is.at ∙ r.at) in
                       absurd (no_write r.call.act reads.value reads.moment (ap (λ (c : Call). c.act) (sym it) ∙ reads.is.is) (put_writes r.call.act value r.expires r.is))

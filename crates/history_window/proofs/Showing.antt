@@ -1,6 +1,6 @@
 -- A history that is acceptable stays so without calls that no hit reads.
 use Rattle.std.proofs.Common.{◌≡◌, ◌≢◌, ℕ, ◌<◌, ◌≤◌, Bool, Some, List, ◌++◌, length, subst, inl, inr}
-use Rattle.std.specs.Prelude.{filter, slice_get}
+use Rattle.std.specs.Prelude.{All, filter, slice_get}
 use Rattle.trace_file.specs.declared.act.Act.TheVariants.{Hit}
 use Rattle.trace_file.specs.declared.call.Call.{Call}
 use Rattle.certificate_checker.specs.Orders.{in_order}
@@ -53,7 +53,7 @@ module _ (history later : List Call) (P : ℕ → Type 0) (kept : List ℕ) (all
           };
     }
 
-  pub shown_acceptable : ((line : List ℕ) → Once line → ((p : ℕ) → p < length (history ++ later) → Member p line) → AgreesLine (history ++ later) line → KeepsReads (history ++ later) (places history later kept) line) → Acceptable (history ++ later) → Acceptable (in_order history kept ++ later)
+  pub shown_acceptable : ((line : List ℕ) → Once line → ((p : ℕ) → p < length (history ++ later) → Member p line) → AgreesLine (history ++ later) line → All (λ (call : Call). call.start ≤ call.end) (history ++ later) → KeepsReads (history ++ later) (places history later kept) line) → Acceptable (history ++ later) → Acceptable (in_order history kept ++ later)
   shown_acceptable keeps whole =
       let line = whole.0 in
       let a = whole.1 in
@@ -64,7 +64,7 @@ module _ (history later : List Call) (P : ℕ → Type 0) (kept : List ℕ) (all
       let chosen = places history later kept in
       subst Acceptable (kept_calls history later P kept all)
       (line_accepted (history ++ later) chosen (places_within history later P kept all) (places_once history later P kept all) (filter test line)
-      (line_shown line once each agrees (keeps line once each agrees) lawful)
+      (line_shown line once each agrees (keeps line once each agrees a.intervals) lawful)
       (member_all (λ (c : Call). c.start ≤ c.end) (in_order (history ++ later) chosen) (λ c m.
       let found = member_picked (slice_get (history ++ later)) chosen c m in
       all_member (λ (c : Call). c.start ≤ c.end) (history ++ later) c a.intervals (member_at (history ++ later) found.0 c found.2))))

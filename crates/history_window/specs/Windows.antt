@@ -16,37 +16,38 @@ pub record IsPut (history : List Call) (key value : List ℕ) (put : ℕ) : Type
   pub at : slice_get history put ≡ Some call
   pub puts : PutsAt key value call
 
--- a put of this value at the key precedes the cut
-pub record HasEarly (history : List Call) (key value : List ℕ) (cut : ℕ) : Type 0 where
+-- a put of this value at the key precedes the cut, and no write of the key stands between that put and the hit in time
+pub record HasEarly (history : List Call) (key value : List ℕ) (cut hit : ℕ) : Type 0 where
   pub put : ℕ
   pub is : IsPut history key value put
   pub early : IsBefore history put cut
+  pub unreplaced : (write : ℕ) → WritesAt history write key → IsBefore history put write → ¬ IsBefore history write hit
 
--- the cut itself puts this value at the key, or the cut precedes a put of it
-pub record HasLate (history : List Call) (key value : List ℕ) (cut : ℕ) : Type 0 where
+-- the cut itself puts this value at the key, or a put that the cut precedes does; and the hit does not precede that put
+pub record HasLate (history : List Call) (key value : List ℕ) (cut hit : ℕ) : Type 0 where
   pub put : ℕ
   pub is : IsPut history key value put
   pub late : (put ≡ cut) ⊎ IsBefore history cut put
+  pub begun : ¬ IsBefore history hit put
 
 -- a cut of a key: a write that ended before a stamp and that each other write of the key precedes or follows in time; and no hit of the key that neither precedes it nor follows it has both an early put of its value and a late one
 pub record IsCut (bound : ℕ) (history : List Call) (key : List ℕ) (cut : ℕ) : Type 0 where
   pub writes : WritesAt history cut key
   pub over : end_at history cut < bound
   pub alone : (other : ℕ) → WritesAt history other key → other ≢ cut → IsBefore history other cut ⊎ IsBefore history cut other
-  pub clear : (hit : ℕ) (value : List ℕ) (moment : ℕ) → IsHit history hit key value moment → ¬ IsBefore history hit cut → ¬ IsBefore history cut hit → HasEarly history key value cut → ¬ HasLate history key value cut
+  pub clear : (hit : ℕ) (value : List ℕ) (moment : ℕ) → IsHit history hit key value moment → ¬ IsBefore history hit cut → ¬ IsBefore history cut hit → HasEarly history key value cut hit → ¬ HasLate history key value cut hit
 
 -- the last cut of a key: each other one precedes it
 pub record IsLastCut (bound : ℕ) (history : List Call) (key : List ℕ) (cut : ℕ) : Type 0 where
   pub is : IsCut bound history key cut
   pub last : (other : ℕ) → IsCut bound history key other → other ≢ cut → IsBefore history other cut
 
--- the call at a position is a hit that does not precede the cut, and some late put has its value
+-- the call at a position is a hit, and some late put has its value
 pub record ReadsLate (history : List Call) (key : List ℕ) (cut hit : ℕ) : Type 0 where
   pub value : List ℕ
   pub moment : ℕ
   pub is : IsHit history hit key value moment
-  pub begun : ¬ IsBefore history hit cut
-  pub late : HasLate history key value cut
+  pub late : HasLate history key value cut hit
 
 -- a call stays, if it is no miss, and is the last cut of its key, or follows that cut in time, or is a hit that reads a late put
 pub record Stays (bound : ℕ) (history : List Call) (position : ℕ) : Type 0 where
