@@ -56,3 +56,15 @@ StandingChains =
     → StandFor bound one other
     → StandFor bound other another
     → StandFor bound one another
+
+-- what stands for all calls so far goes on to do so: it gets the next calls, and if it is acceptable with them, it forgets all but a window and then the spent hits
+abbrev pub ForgettingGoesOn : Type 0
+ForgettingGoesOn =
+    (bound other : ℕ) (history kept more : List Call) (window unspent : List ℕ)
+    → StandFor bound kept history
+    → bound ≤ other
+    → StartFrom bound more
+    → Acceptable (kept ++ more)
+    → IsWindow other (kept ++ more) window
+    → AreUnspent other (in_order (kept ++ more) window) unspent
+    → StandFor other (in_order (in_order (kept ++ more) window) unspent) (history ++ more)

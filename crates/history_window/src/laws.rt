@@ -1,5 +1,5 @@
 // Laws of windows.
-ghost use Rattle.history_window.specs.Laws.{LinesAreAcceptable, StandingChains, StandingGrows, UnspentStand, WindowStands};
+ghost use Rattle.history_window.specs.Laws.{ForgettingGoesOn, LinesAreAcceptable, StandingChains, StandingGrows, UnspentStand, WindowStands};
 
 use certificate_finder::sorted_spots_are_accepted;
 
@@ -33,3 +33,12 @@ pub fn standing_grows()
 pub fn standing_chains()
     ensures { StandingChains }
 {}
+
+/// What stands for all calls so far goes on to do so: it gets the next calls, and if it is acceptable with them, it forgets all but a
+/// window and then the spent hits.
+pub fn forgetting_goes_on()
+    ensures { ForgettingGoesOn }
+{
+    window_stands();
+    unspent_stand();
+}

@@ -4,5 +4,6 @@
 mod laws;
 
 pub use laws::{
-    lines_are_acceptable, standing_chains, standing_grows, unspent_stand, window_stands,
+    forgetting_goes_on, lines_are_acceptable, standing_chains, standing_grows, unspent_stand,
+    window_stands,
 };
