@@ -13,5 +13,6 @@ mod Restoring
 mod Joining
 mod Forgetting
 mod Idling
-mod Spending
+mod SpentLemmas
 mod Examples
+mod WriterLemmas

@@ -1,9 +1,14 @@
 //! What a judge that reads a stream of calls may forget of those that it has read.
 #![tactic(auto)]
 
+mod key_writes;
 mod laws;
+mod lent_key;
+mod spending;
+mod writes;
 
 pub use laws::{
     forgetting_goes_on, lines_are_acceptable, standing_chains, standing_grows, unspent_stand,
     window_stands,
 };
+pub use spending::unspent;

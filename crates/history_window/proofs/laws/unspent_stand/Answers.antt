@@ -1,5 +1,5 @@
 use Rattle.history_window.proofs.Idling.{unspent_acceptable}
-use Rattle.history_window.proofs.Spending.{spent_acceptable}
+use Rattle.history_window.proofs.SpentLemmas.{spent_acceptable}
 use Rattle.history_window.proofs.laws.unspent_stand.Goals as goal
 
 pub returns : goal.returns
