@@ -1,5 +1,5 @@
 -- What stands for a history, as both grow.
-use Rattle.std.proofs.Common.{ℕ, ◌<◌, ◌≤◌, List, ◌++◌, sym, subst, arith, inl, inr, append_assoc, append-nil, []}
+use Rattle.std.proofs.Common.{ℕ, ◌≤◌, List, ◌++◌, sym, subst, arith, inl, inr, append_assoc, append-nil, []}
 use Rattle.std.specs.Prelude.{◌↔◌}
 use Rattle.trace_file.specs.declared.call.Call.{Call}
 use Rattle.certificate_checker.specs.Orders.{in_order}

@@ -16,3 +16,5 @@ mod Idling
 mod SpentLemmas
 mod Examples
 mod WriterLemmas
+mod SettledLemmas
+mod SettledHits

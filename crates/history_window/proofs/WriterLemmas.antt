@@ -1,6 +1,6 @@
 -- The first and the last write of each key, call by call, and spent hits by them.
-use Rattle.std.proofs.Common.{◌≡◌, ℕ, ◌+◌, ◌<◌, ◌≤◌, ◌⊎◌, ◌&&◌, Bool, true, false, not, cond, Option, Some, None, List, [], ◌∷◌, ◌++◌, length, refl, sym, ap, ◌∙◌, subst, arith, inl, inr}
-use Rattle.std.specs.Prelude.{All, Contains, IsTrue, slice_get}
+use Rattle.std.proofs.Common.{◌≡◌, ℕ, ◌+◌, ◌<◌, ◌≤◌, ◌&&◌, Bool, true, false, not, cond, Option, Some, None, List, [], ◌∷◌, ◌++◌, length, refl, sym, ap, ◌∙◌, subst, arith, inl, inr}
+use Rattle.std.specs.Prelude.{Contains, IsTrue, slice_get}
 use Rattle.std.specs.Cmp.Lexicographic.{bytes_decides}
 use Rattle.std.specs.Option.{option_map_or}
 use Rattle.std.specs.Str.{bytes_eq}
@@ -13,7 +13,7 @@ use Rattle.trace_file.specs.declared.act.Act.TheVariants.{Put, Remove, Hit, Miss
 use Rattle.trace_file.specs.declared.call.Call.{Call}
 use Rattle.certificate_checker.specs.Latest.{IsWrite}
 use Rattle.certificate_finder.specs.Lists.{AreAllBelow, GrowsIf}
-use Rattle.certificate_finder.specs.Turns.{IsHit, WritesAt, end_at}
+use Rattle.certificate_finder.specs.Turns.{WritesAt, end_at}
 use Rattle.history_window.specs.declared.key_writes.KeyWrites.{KeyWrites}
 use Rattle.history_window.specs.Spent.{IsSpent}
 use Rattle.history_window.specs.Writers.{AreFirstAndLast, AreWrites, IsSpentBy, after_call, is_reading, is_writing}
@@ -21,13 +21,13 @@ use Rattle.history_window.proofs.CallLemmas.{end_is}
 
 -- ---- what acts do
 
-writing_is : (act : Act) → is_writing act ≡ true → IsWrite act
+pub writing_is : (act : Act) → is_writing act ≡ true → IsWrite act
 writing_is (Put value expires) h = tt
 writing_is Remove h = tt
 writing_is (Hit value moment) h = cc
 writing_is Miss h = cc
 
-is_writing_of : (act : Act) → IsWrite act → is_writing act ≡ true
+pub is_writing_of : (act : Act) → IsWrite act → is_writing act ≡ true
 is_writing_of (Put value expires) h = refl
 is_writing_of Remove h = refl
 is_writing_of (Hit value moment) h = absurd h

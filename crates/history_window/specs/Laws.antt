@@ -6,6 +6,7 @@ use Rattle.certificate_checker.specs.Latest.{IsLawful}
 use Rattle.certificate_checker.specs.Orders.{IsOrder, in_order}
 use Rattle.certificate_finder.specs.Spots.{AreOfOne}
 use Rattle.certificate_finder.specs.Turns.{end_at, start_at}
+use Rattle.history_window.specs.Settled.{AreUnsettled}
 use Rattle.history_window.specs.Spent.{AreUnspent}
 use Rattle.history_window.specs.Standing.{Acceptable, StandFor, StartFrom}
 use Rattle.history_window.specs.Windows.{IsWindow}
@@ -37,6 +38,14 @@ abbrev pub UnspentStand : Type 0
 UnspentStand =
     (bound : ℕ) (history : List Call) (kept : List ℕ)
     → AreUnspent bound history kept
+    → Acceptable history
+    → StandFor bound (in_order history kept) history
+
+-- the calls of an acceptable history that are no settled hits stand for it
+abbrev pub UnsettledStand : Type 0
+UnsettledStand =
+    (bound : ℕ) (history : List Call) (kept : List ℕ)
+    → AreUnsettled bound history kept
     → Acceptable history
     → StandFor bound (in_order history kept) history
 

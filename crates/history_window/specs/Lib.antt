@@ -1,4 +1,5 @@
 pub mod Laws
+pub mod Settled
 pub mod Spent
 pub mod Standing
 pub mod Windows

@@ -1,5 +1,5 @@
 // Laws of windows.
-ghost use Rattle.history_window.specs.Laws.{ForgettingGoesOn, LinesAreAcceptable, StandingChains, StandingGrows, UnspentStand, WindowStands};
+ghost use Rattle.history_window.specs.Laws.{ForgettingGoesOn, LinesAreAcceptable, StandingChains, StandingGrows, UnsettledStand, UnspentStand, WindowStands};
 
 use certificate_finder::sorted_spots_are_accepted;
 
@@ -20,6 +20,13 @@ pub fn window_stands()
 /// The calls of an acceptable history that are no spent hits stand for it.
 pub fn unspent_stand()
     ensures { UnspentStand }
+{
+    lines_are_acceptable();
+}
+
+/// The calls of an acceptable history that are no settled hits stand for it.
+pub fn unsettled_stand()
+    ensures { UnsettledStand }
 {
     lines_are_acceptable();
 }

@@ -8,7 +8,7 @@ mod spending;
 mod writes;
 
 pub use laws::{
-    forgetting_goes_on, lines_are_acceptable, standing_chains, standing_grows, unspent_stand,
-    window_stands,
+    forgetting_goes_on, lines_are_acceptable, standing_chains, standing_grows, unsettled_stand,
+    unspent_stand, window_stands,
 };
 pub use spending::unspent;

@@ -1,5 +1,5 @@
 -- What the map has after the change, read at a key of the same bytes.
-use Rattle.std.proofs.Common.{◌≡◌, ℕ, true, cond, Some, List, arith, sym, ◌∙◌}
+use Rattle.std.proofs.Common.{◌≡◌, ℕ, true, cond, Some, List, arith}
 use Rattle.std.proofs.lemmas.Grind.{common_steps}
 use Rattle.std.specs.Str.{bytes_eq}
 use Rattle.trace_file.specs.Lent.{act_shown, call_shown}
