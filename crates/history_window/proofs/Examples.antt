@@ -1,16 +1,18 @@
 -- Windows of small histories of one key.
 use Rattle.std.proofs.Common.{◌≡◌, ◌≢◌, ℕ, ◌<◌, ◌≤◌, zero, suc, Some, None, List, [], ◌∷◌, refl, sym, ap, ◌∙◌, subst, arith, inl, inr, ◌⊎◌}
-use Rattle.std.specs.Prelude.{Contains, slice_get}
+use Rattle.std.specs.Prelude.{All, Contains, slice_get}
 use Rattle.std.proofs.lemmas.Bool.{cases_eq}
 use Rattle.std.proofs.lemmas.Option.{none-some, same_Some}
 use Rattle.record_pages.specs.Expiry.{never}
 use Rattle.trace_file.specs.declared.act.Act.TheVariants.{Put, Hit}
 use Rattle.trace_file.specs.declared.call.Call.{Call}
 use Rattle.certificate_checker.specs.Latest.{IsWrite}
-use Rattle.certificate_checker.proofs.public_laws.Listing.{Member, contained_member, member_all, member_contained, pairs_to}
+use Rattle.certificate_checker.proofs.public_laws.Listing.{Member, all_member, member_at, contained_member, member_all, member_contained, pairs_to}
 use Rattle.certificate_finder.specs.Turns.{IsHit, WritesAt, end_at, start_at}
+use Rattle.history_window.specs.Settled.{IsLastWrite, IsSettledHit}
+use Rattle.history_window.specs.Spent.{IsSpent}
 use Rattle.history_window.specs.Windows.{HasEarly, HasLate, IsBefore, IsCut, IsLastCut, IsPut, IsWindow, ReadsLate, Stays}
-use Rattle.history_window.proofs.CallLemmas.{late_begun, no_write}
+use Rattle.history_window.proofs.CallLemmas.{end_is, late_begun, no_write, start_is}
 
 -- a put and a hit of a value at one key, with their starts and ends
 abbrev key : List ℕ
@@ -243,3 +245,35 @@ old_hit_goes stays =
             values_apart reads.value (hit_value beside 2 (hit 1 3 4) (1 ∷ []) reads.value 3 reads.moment refl refl reads.is) (late_is reads.value 2 reads.late)
       ]
     ]
+
+-- ---- a spent hit is settled
+
+spent_settled : (bound : ℕ) (history : List Call) (p : ℕ) → All (λ (call : Call). call.start ≤ call.end) history → IsSpent bound history p → IsSettledHit bound history p
+spent_settled bound history p intervals spent = record {
+  key = spent.key;
+  value = spent.value;
+  moment = spent.moment;
+  is = spent.is;
+  over = spent.over;
+  settled = record {
+    act = spent.writes.call.act;
+    ended = λ write writes. let e = ap (end_at history) (spent.sole write writes) in let ended = spent.ended in omega (arith, e, ended);
+    alike = λ write last.
+        let same = spent.sole write last.writes in
+        ap (λ (c : Call). c.act) (same_Some last.writes.call spent.writes.call (sym last.writes.at ∙ ap (slice_get history) same ∙ spent.writes.at));
+    above = λ other write writes not last. absurd (not (alone other writes));
+    begun = λ other hit value moment writes not hits enough. absurd (not (alone other writes));
+  };
+}
+  where
+  alone : (other : ℕ) → WritesAt history other spent.key → IsLastWrite history spent.key other
+  alone other writes = record {
+    writes = writes;
+    last = λ another more before.
+        let same = spent.sole other writes ∙ sym (spent.sole another more) in
+        let till = end_is history other writes.call writes.at in
+        let from = start_is history other writes.call writes.at in
+        let span : writes.call.start ≤ writes.call.end = all_member (λ (c : Call). c.start ≤ c.end) history writes.call intervals (member_at history other writes.call writes.at) in
+        let e = ap (start_at history) same in
+        omega (arith, before, till, from, span, e);
+  }

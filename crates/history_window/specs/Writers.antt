@@ -8,10 +8,10 @@ use Rattle.trace_file.specs.declared.act.Act.TheVariants.{Put, Remove, Hit, Miss
 use Rattle.trace_file.specs.declared.call.Call.{Call}
 use Rattle.certificate_finder.specs.Turns.{WritesAt, end_at}
 use Rattle.history_window.specs.declared.key_writes.KeyWrites.{KeyWrites}
-use Rattle.history_window.specs.declared.lent_key.LentKey.{LentKey}
+use Rattle.history_window.specs.declared.written_key.WrittenKey.{WrittenKey}
 
 -- what the map has for a key, by the key's bytes, whatever hasher it has
-abbrev pub writes_at : {S : Type 0} → HashMap LentKey KeyWrites S → List ℕ → Option KeyWrites
+abbrev pub writes_at : {S : Type 0} → HashMap WrittenKey KeyWrites S → List ℕ → Option KeyWrites
 writes_at writes key = get_by (λ k. bytes_eq key k.bytes.now) writes
 
 -- whether an act writes

@@ -3,9 +3,9 @@
 
 mod key_writes;
 mod laws;
-mod lent_key;
 mod spending;
 mod writes;
+mod written_key;
 
 pub use laws::{
     forgetting_goes_on, lines_are_acceptable, standing_chains, standing_grows, unsettled_stand,

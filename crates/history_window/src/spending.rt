@@ -6,7 +6,7 @@ ghost use Rattle.history_window.specs.Spent.{AreUnspent};
 ghost use Rattle.history_window.specs.Writers.{AreWrites, IsSpentBy, is_reading, writes_at};
 
 use crate::key_writes::KeyWrites;
-use crate::lent_key::LentKey;
+use crate::written_key::WrittenKey;
 use crate::writes::writes_of;
 use certificate_finder::MAX_CALLS;
 use std::alloc::{AllocError, Global};
@@ -40,7 +40,7 @@ pub fn unspent<S: BuildHasher + Drop>(
 /// The same by the first and the last write of each key.
 fn unspent_by<'a, S: BuildHasher>(
     alloc: Global,
-    writes: &HashMap<LentKey<'a>, KeyWrites, S>,
+    writes: &HashMap<WrittenKey<'a>, KeyWrites, S>,
     history: &'a History,
     bound: u64,
 ) -> Result<Vec<u32>, AllocError>
@@ -71,7 +71,7 @@ fn is_hit(act: &ActRef<'_>) -> bool
 
 /// Whether a call is a spent hit.
 fn is_spent<'a, S: BuildHasher>(
-    writes: &HashMap<LentKey<'a>, KeyWrites, S>,
+    writes: &HashMap<WrittenKey<'a>, KeyWrites, S>,
     call: &CallRef<'a>,
     bound: u64,
 ) -> bool
@@ -80,7 +80,7 @@ fn is_spent<'a, S: BuildHasher>(
     if !is_hit(&call.act) || call.end >= bound {
         return false;
     }
-    match writes.get(&LentKey { bytes: call.key }) {
+    match writes.get(&WrittenKey { bytes: call.key }) {
         Some(known) => known.first == known.last && known.end < bound,
         None => false,
     }

@@ -5,7 +5,7 @@ ghost use Rattle.trace_file.specs.Lent.{act_shown, call_shown};
 ghost use Rattle.history_window.specs.Writers.{AreWrites, after_call, is_writing, writes_at};
 
 use crate::key_writes::KeyWrites;
-use crate::lent_key::LentKey;
+use crate::written_key::WrittenKey;
 use std::alloc::{AllocError, Global};
 use std::collections::HashMap;
 use std::hash::BuildHasher;
@@ -25,7 +25,7 @@ fn is_write(act: &ActRef<'_>) -> bool
 
 /// Notes the call at a position, if it writes, as the last one of its key.
 fn note<'a, S: BuildHasher>(
-    writes: &mut HashMap<LentKey<'a>, KeyWrites, S>,
+    writes: &mut HashMap<WrittenKey<'a>, KeyWrites, S>,
     position: u32,
     call: &CallRef<'a>,
 ) -> Result<(), AllocError>
@@ -34,7 +34,7 @@ fn note<'a, S: BuildHasher>(
     if !is_write(&call.act) {
         return Ok(());
     }
-    let key = LentKey { bytes: call.key };
+    let key = WrittenKey { bytes: call.key };
     let first = first_of(writes, key, position);
     writes.insert(
         key,
@@ -49,8 +49,8 @@ fn note<'a, S: BuildHasher>(
 
 /// The position of the first write of a key, otherwise this position.
 fn first_of<'a, S: BuildHasher>(
-    writes: &HashMap<LentKey<'a>, KeyWrites, S>,
-    key: LentKey<'a>,
+    writes: &HashMap<WrittenKey<'a>, KeyWrites, S>,
+    key: WrittenKey<'a>,
     position: u32,
 ) -> u32
     ensures { result ≡ option_map_or (λ known. known.first) (writes_at writes.now key.entry.bytes.now) position }
@@ -66,7 +66,7 @@ pub(crate) fn writes_of<'a, S: BuildHasher + Drop>(
     alloc: Global,
     hash_builder: S,
     history: &'a History,
-) -> Result<HashMap<LentKey<'a>, KeyWrites, S>, AllocError>
+) -> Result<HashMap<WrittenKey<'a>, KeyWrites, S>, AllocError>
     requires { length history.now < 2 ^ 31 }
     ensures { IfOk result (λ writes. AreWrites history.now (length history.now) (writes_at writes)) }
 {

@@ -3,12 +3,12 @@ use Rattle.std.proofs.Common.{◌≡◌, ℕ, true, cond, Some, List, arith}
 use Rattle.std.proofs.lemmas.Grind.{common_steps}
 use Rattle.std.specs.Str.{bytes_eq}
 use Rattle.trace_file.specs.Lent.{act_shown, call_shown}
-use Rattle.history_window.specs.declared.lent_key.LentKey.{LentKey}
+use Rattle.history_window.specs.declared.written_key.WrittenKey.{WrittenKey}
 use Rattle.history_window.specs.Writers.{is_writing, writes_at}
 use Rattle.history_window.proofs.WriterLemmas.{noted_after}
 use Rattle.history_window.proofs.writes.note.Goals as goal
 
-lent : List ℕ → LentKey
+lent : List ℕ → WrittenKey
 lent key = record { bytes = record { ref_ptr = (0, 0); now = key } }
 
 pub returns : goal.returns

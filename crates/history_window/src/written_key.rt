@@ -9,11 +9,11 @@ use std::hash::{Hash, Hasher};
 
 /// The bytes of a key, lent by a history. They are hashed by one write, and not byte by byte.
 #[derive(Clone, Copy)]
-pub(crate) struct LentKey<'a> {
+pub(crate) struct WrittenKey<'a> {
     pub(crate) bytes: &'a [u8],
 }
 
-impl PartialEq for LentKey<'_> {
+impl PartialEq for WrittenKey<'_> {
     ghost eq = { λ a b. bytes_eq a.bytes.now b.bytes.now };
 
     ghost laws = { on_per (λ key. key.bytes.now) (partial_equiv_from_equiv nat_list_eq_equiv) };
@@ -23,11 +23,11 @@ impl PartialEq for LentKey<'_> {
     }
 }
 
-impl Eq for LentKey<'_> {
+impl Eq for WrittenKey<'_> {
     ghost laws = { on_equiv (λ key. key.bytes.now) nat_list_eq_equiv };
 }
 
-impl Hash for LentKey<'_> {
+impl Hash for WrittenKey<'_> {
     ghost hash_input = { λ key. key.bytes.now ∷ [] };
 
     ghost respects_eq = { λ a b same. ap (λ bytes. bytes ∷ []) ((bytes_decides a.bytes.now b.bytes.now).0 same) };
