@@ -1,18 +1,17 @@
 -- Windows of small histories of one key.
 use Rattle.std.proofs.Common.{◌≡◌, ◌≢◌, ℕ, ◌<◌, ◌≤◌, zero, suc, Some, None, List, [], ◌∷◌, refl, sym, ap, ◌∙◌, subst, arith, inl, inr, ◌⊎◌}
-use Rattle.std.specs.Prelude.{All, Contains, slice_get}
+use Rattle.std.specs.Prelude.{Contains, slice_get}
 use Rattle.std.proofs.lemmas.Bool.{cases_eq}
 use Rattle.std.proofs.lemmas.Option.{none-some, same_Some}
 use Rattle.record_pages.specs.Expiry.{never}
 use Rattle.trace_file.specs.declared.act.Act.TheVariants.{Put, Hit}
 use Rattle.trace_file.specs.declared.call.Call.{Call}
 use Rattle.certificate_checker.specs.Latest.{IsWrite}
-use Rattle.certificate_checker.proofs.public_laws.Listing.{Member, all_member, member_at, contained_member, member_all, member_contained, pairs_to}
+use Rattle.certificate_checker.proofs.public_laws.Listing.{Member, contained_member, member_all, member_contained, pairs_to}
 use Rattle.certificate_finder.specs.Turns.{IsHit, WritesAt, end_at, start_at}
 use Rattle.history_window.specs.Settled.{IsLastWrite, IsSettledHit}
-use Rattle.history_window.specs.Spent.{IsSpent}
 use Rattle.history_window.specs.Windows.{HasEarly, HasLate, IsBefore, IsCut, IsLastCut, IsPut, IsWindow, ReadsLate, Stays}
-use Rattle.history_window.proofs.CallLemmas.{end_is, late_begun, no_write, start_is}
+use Rattle.history_window.proofs.CallLemmas.{late_begun, no_write}
 
 -- a put and a hit of a value at one key, with their starts and ends
 abbrev key : List ℕ
@@ -246,34 +245,50 @@ old_hit_goes stays =
       ]
     ]
 
--- ---- a spent hit is settled
+-- ---- two callers put one value side by side: a hit after that is settled
 
-spent_settled : (bound : ℕ) (history : List Call) (p : ℕ) → All (λ (call : Call). call.start ≤ call.end) history → IsSpent bound history p → IsSettledHit bound history p
-spent_settled bound history p intervals spent = record {
-  key = spent.key;
-  value = spent.value;
-  moment = spent.moment;
-  is = spent.is;
-  over = spent.over;
+abbrev loaded : List Call
+loaded = put 1 0 2 ∷ put 1 1 3 ∷ hit 1 4 5 ∷ []
+
+loaded_last : (p : ℕ) → WritesAt loaded p key → IsLastWrite loaded key p
+loaded_last p writes = record { writes = writes; last = λ other more before. no_after p other writes more before }
+  where
+    no_after : (p other : ℕ) → WritesAt loaded p key → WritesAt loaded other key → ¬ IsBefore loaded p other
+    no_after zero zero writes more before = omega (arith, before)
+    no_after zero (suc zero) writes more before = omega (arith, before)
+    no_after zero (suc (suc zero)) writes more before = no_write_at loaded 2 (1 ∷ []) 4 (hit 1 4 5) refl refl more
+    no_after zero (suc (suc (suc n))) writes more before = nothing_at loaded (suc (suc (suc n))) more.call refl more.at
+    no_after (suc zero) zero writes more before = omega (arith, before)
+    no_after (suc zero) (suc zero) writes more before = omega (arith, before)
+    no_after (suc zero) (suc (suc zero)) writes more before = no_write_at loaded 2 (1 ∷ []) 4 (hit 1 4 5) refl refl more
+    no_after (suc zero) (suc (suc (suc n))) writes more before = nothing_at loaded (suc (suc (suc n))) more.call refl more.at
+    no_after (suc (suc zero)) other writes more before = no_write_at loaded 2 (1 ∷ []) 4 (hit 1 4 5) refl refl writes
+    no_after (suc (suc (suc n))) other writes more before = nothing_at loaded (suc (suc (suc n))) writes.call refl writes.at
+
+loaded_hit : IsSettledHit 6 loaded 2
+loaded_hit = record {
+  key = key;
+  value = 1 ∷ [];
+  moment = 4;
+  is = record { call = hit 1 4 5; at = refl; one_key = refl; is = refl };
+  over = omega arith;
   settled = record {
-    act = spent.writes.call.act;
-    ended = λ write writes. let e = ap (end_at history) (spent.sole write writes) in let ended = spent.ended in omega (arith, e, ended);
-    alike = λ write last.
-        let same = spent.sole write last.writes in
-        ap (λ (c : Call). c.act) (same_Some last.writes.call spent.writes.call (sym last.writes.at ∙ ap (slice_get history) same ∙ spent.writes.at));
-    above = λ other write writes not last. absurd (not (alone other writes));
-    begun = λ other hit value moment writes not hits enough. absurd (not (alone other writes));
+    act = Put (1 ∷ []) never;
+    ended = ended;
+    alike = λ write last. alike write last.writes;
+    above = λ other write writes not last. absurd (not (loaded_last other writes));
+    begun = λ other h value moment writes not hits enough. absurd (not (loaded_last other writes));
   };
 }
   where
-  alone : (other : ℕ) → WritesAt history other spent.key → IsLastWrite history spent.key other
-  alone other writes = record {
-    writes = writes;
-    last = λ another more before.
-        let same = spent.sole other writes ∙ sym (spent.sole another more) in
-        let till = end_is history other writes.call writes.at in
-        let from = start_is history other writes.call writes.at in
-        let span : writes.call.start ≤ writes.call.end = all_member (λ (c : Call). c.start ≤ c.end) history writes.call intervals (member_at history other writes.call writes.at) in
-        let e = ap (start_at history) same in
-        omega (arith, before, till, from, span, e);
-  }
+    ended : (p : ℕ) → WritesAt loaded p key → end_at loaded p < 6
+    ended zero writes = omega arith
+    ended (suc zero) writes = omega arith
+    ended (suc (suc zero)) writes = omega arith
+    ended (suc (suc (suc n))) writes = omega arith
+
+    alike : (p : ℕ) (writes : WritesAt loaded p key) → writes.call.act ≡ Put (1 ∷ []) never
+    alike zero writes = ap (λ (c : Call). c.act) (same_Some writes.call (put 1 0 2) (sym writes.at))
+    alike (suc zero) writes = ap (λ (c : Call). c.act) (same_Some writes.call (put 1 1 3) (sym writes.at))
+    alike (suc (suc zero)) writes = absurd (no_write_at loaded 2 (1 ∷ []) 4 (hit 1 4 5) refl refl writes)
+    alike (suc (suc (suc n))) writes = absurd (nothing_at loaded (suc (suc (suc n))) writes.call refl writes.at)

@@ -4,7 +4,7 @@ use Rattle.std.specs.Prelude.{◌↔◌}
 use Rattle.trace_file.specs.declared.call.Call.{Call}
 use Rattle.certificate_checker.specs.Orders.{in_order}
 use Rattle.certificate_checker.proofs.public_laws.Listing.{all_member, member_all, member_either}
-use Rattle.history_window.specs.Laws.{ForgettingGoesOn, StandingGrows, UnspentStand, WindowStands}
+use Rattle.history_window.specs.Laws.{ForgettingGoesOn, StandingGrows, UnsettledStand, WindowStands}
 use Rattle.history_window.specs.Standing.{Acceptable, StandFor, StartFrom}
 
 -- calls that start at a later stamp, after calls that start at an earlier one
@@ -26,11 +26,11 @@ stands_now bound kept history stands a =
     let both = stands [] (λ k d less. absurd (omega (arith, less))) in
     subst Acceptable (append-nil kept) (both.1 (subst Acceptable (sym (append-nil history)) a))
 
-pub goes_on : WindowStands → UnspentStand → ForgettingGoesOn
-goes_on windows unspents bound other history kept more window unspent stands le from a is rest later start =
+pub goes_on : WindowStands → UnsettledStand → ForgettingGoesOn
+goes_on windows settles bound other history kept more window left stands le from a is rest later start =
     let grown = standing_more bound other kept history more stands le from in
     let shown = windows other (kept ++ more) window is a in
-    let again = unspents other (in_order (kept ++ more) window) unspent rest (stands_now other (in_order (kept ++ more) window) (kept ++ more) shown a) in
+    let again = settles other (in_order (kept ++ more) window) left rest (stands_now other (in_order (kept ++ more) window) (kept ++ more) shown a) in
     let first = again later start in
     let second = shown later start in
     let third = grown later start in

@@ -12,9 +12,10 @@ mod Dropping
 mod Restoring
 mod Joining
 mod Forgetting
-mod Idling
-mod SpentLemmas
 mod Examples
-mod WriterLemmas
+mod ActLemmas
 mod SettledLemmas
 mod SettledHits
+mod KnowLemmas
+mod KnowMore
+mod Telling

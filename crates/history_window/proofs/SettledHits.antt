@@ -22,7 +22,7 @@ use Rattle.history_window.specs.Laws.{LinesAreAcceptable}
 use Rattle.history_window.specs.Settled.{AreUnsettled, IsLastWrite, IsSettled, IsSettledHit}
 use Rattle.history_window.specs.Standing.{Acceptable, StartFrom}
 use Rattle.history_window.specs.Windows.{IsBefore}
-use Rattle.history_window.specs.Writers.{is_writing}
+use Rattle.history_window.specs.Acts.{is_writing}
 use Rattle.history_window.proofs.Ahead.{Ahead, Once, ahead_across, ahead_append, ahead_filter, ahead_left, filter_ahead, first_member, second_member}
 use Rattle.history_window.proofs.CallLemmas.{end_is, no_write, precedes_of, put_writes}
 use Rattle.history_window.proofs.Joining.{apart, joined_acceptable, lapses_both, order_of, tail_reads}
@@ -30,7 +30,7 @@ use Rattle.history_window.proofs.Keeping.{at_history, at_whole, holds_kept, in_l
 use Rattle.history_window.proofs.Lining.{AgreesLine, IsLawfulLine, ReadsIn, agrees_to, lawful_to, unreplaced}
 use Rattle.history_window.proofs.Picking.{IsLineOf, line_of, run, run_from}
 use Rattle.history_window.proofs.SettledLemmas.{IsLastOf, act_is, any_of, is_write_of, last_of, of_any, of_write, write_of, write_unsettled}
-use Rattle.history_window.proofs.WriterLemmas.{is_writing_of, writing_is}
+use Rattle.history_window.proofs.ActLemmas.{is_writing_of, writing_is}
 
 module _ (bound : ℕ) (history later : List Call) (kept : List ℕ) (unsettled : AreUnsettled bound history kept) (late : StartFrom bound later) (line : List ℕ) (once : Once line) (below : (p : ℕ) → Member p line → p < length history) (each : (p : ℕ) → p < length history → Member p line) (intervals : All (λ call. call.start ≤ call.end) history) (agrees : AgreesLine history line) (lawful : IsLawfulLine history line) (whole_line : List ℕ) (is : IsLineOf (history ++ later) (places history later kept) whole_line) (lapses : All (λ (call : Call). call.start ≤ call.end) later) where
   abbrev Left : ℕ → Type 0

@@ -16,14 +16,14 @@ use Rattle.certificate_checker.proofs.public_laws.Listing.{Member, member_left}
 use Rattle.certificate_finder.specs.Turns.{WritesAt}
 use Rattle.history_window.specs.Settled.{AreUnsettled, IsSettledHit}
 use Rattle.history_window.specs.Standing.{Acceptable}
-use Rattle.history_window.specs.Writers.{is_writing}
+use Rattle.history_window.specs.Acts.{is_writing}
 use Rattle.history_window.proofs.Ahead.{Ahead}
 use Rattle.history_window.proofs.CallLemmas.{no_write, put_writes}
 use Rattle.history_window.proofs.Joining.{apart}
 use Rattle.history_window.proofs.Keeping.{at_history, holds_kept, late_placed}
 use Rattle.history_window.proofs.Picking.{run}
 use Rattle.history_window.proofs.Showing.{shown_acceptable}
-use Rattle.history_window.proofs.WriterLemmas.{is_writing_of, writing_is}
+use Rattle.history_window.proofs.ActLemmas.{is_writing_of, writing_is}
 
 -- a call that writes is no settled hit
 pub write_unsettled : (bound : ℕ) (history : List Call) (p : ℕ) (call : Call) → slice_get history p ≡ Some call → IsWrite call.act → ¬ IsSettledHit bound history p

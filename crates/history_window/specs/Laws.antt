@@ -7,7 +7,6 @@ use Rattle.certificate_checker.specs.Orders.{IsOrder, in_order}
 use Rattle.certificate_finder.specs.Spots.{AreOfOne}
 use Rattle.certificate_finder.specs.Turns.{end_at, start_at}
 use Rattle.history_window.specs.Settled.{AreUnsettled}
-use Rattle.history_window.specs.Spent.{AreUnspent}
 use Rattle.history_window.specs.Standing.{Acceptable, StandFor, StartFrom}
 use Rattle.history_window.specs.Windows.{IsWindow}
 
@@ -30,14 +29,6 @@ abbrev pub WindowStands : Type 0
 WindowStands =
     (bound : ℕ) (history : List Call) (kept : List ℕ)
     → IsWindow bound history kept
-    → Acceptable history
-    → StandFor bound (in_order history kept) history
-
--- the calls of an acceptable history that are no spent hits stand for it
-abbrev pub UnspentStand : Type 0
-UnspentStand =
-    (bound : ℕ) (history : List Call) (kept : List ℕ)
-    → AreUnspent bound history kept
     → Acceptable history
     → StandFor bound (in_order history kept) history
 
@@ -66,14 +57,14 @@ StandingChains =
     → StandFor bound other another
     → StandFor bound one another
 
--- what stands for all calls so far goes on to do so: it gets the next calls, and if it is acceptable with them, it forgets all but a window and then the spent hits
+-- what stands for all calls so far goes on to do so: it gets the next calls, and if it is acceptable with them, it forgets all but a window and then the settled hits
 abbrev pub ForgettingGoesOn : Type 0
 ForgettingGoesOn =
-    (bound other : ℕ) (history kept more : List Call) (window unspent : List ℕ)
+    (bound other : ℕ) (history kept more : List Call) (window left : List ℕ)
     → StandFor bound kept history
     → bound ≤ other
     → StartFrom bound more
     → Acceptable (kept ++ more)
     → IsWindow other (kept ++ more) window
-    → AreUnspent other (in_order (kept ++ more) window) unspent
-    → StandFor other (in_order (in_order (kept ++ more) window) unspent) (history ++ more)
+    → AreUnsettled other (in_order (kept ++ more) window) left
+    → StandFor other (in_order (in_order (kept ++ more) window) left) (history ++ more)

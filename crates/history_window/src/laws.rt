@@ -1,5 +1,5 @@
 // Laws of windows.
-ghost use Rattle.history_window.specs.Laws.{ForgettingGoesOn, LinesAreAcceptable, StandingChains, StandingGrows, UnsettledStand, UnspentStand, WindowStands};
+ghost use Rattle.history_window.specs.Laws.{ForgettingGoesOn, LinesAreAcceptable, StandingChains, StandingGrows, UnsettledStand, WindowStands};
 
 use certificate_finder::sorted_spots_are_accepted;
 
@@ -13,13 +13,6 @@ pub fn lines_are_acceptable()
 /// The calls in the window of an acceptable history stand for it.
 pub fn window_stands()
     ensures { WindowStands }
-{
-    lines_are_acceptable();
-}
-
-/// The calls of an acceptable history that are no spent hits stand for it.
-pub fn unspent_stand()
-    ensures { UnspentStand }
 {
     lines_are_acceptable();
 }
@@ -42,10 +35,10 @@ pub fn standing_chains()
 {}
 
 /// What stands for all calls so far goes on to do so: it gets the next calls, and if it is acceptable with them, it forgets all but a
-/// window and then the spent hits.
+/// window and then the settled hits.
 pub fn forgetting_goes_on()
     ensures { ForgettingGoesOn }
 {
     window_stands();
-    unspent_stand();
+    unsettled_stand();
 }

@@ -1,14 +1,14 @@
 //! What a judge that reads a stream of calls may forget of those that it has read.
 #![tactic(auto)]
 
-mod key_writes;
+mod key_state;
 mod laws;
-mod spending;
-mod writes;
+mod settling;
+mod states;
 mod written_key;
 
 pub use laws::{
     forgetting_goes_on, lines_are_acceptable, standing_chains, standing_grows, unsettled_stand,
-    unspent_stand, window_stands,
+    window_stands,
 };
-pub use spending::unspent;
+pub use settling::unsettled;
