@@ -9,7 +9,7 @@ use Rattle.trace_file.specs.declared.call.Call.{Call}
 use Rattle.certificate_checker.specs.Latest.{IsWrite}
 use Rattle.certificate_checker.proofs.public_laws.Listing.{Member, contained_member, member_all, member_contained, pairs_to}
 use Rattle.certificate_finder.specs.Turns.{IsHit, WritesAt, end_at, start_at}
-use Rattle.history_window.specs.Settled.{IsLastWrite, IsSettledHit}
+use Rattle.history_window.specs.Settled.{IsSettledHit}
 use Rattle.history_window.specs.Windows.{HasEarly, HasLate, IsBefore, IsCut, IsLastCut, IsPut, IsWindow, ReadsLate, Stays}
 use Rattle.history_window.proofs.CallLemmas.{late_begun, no_write}
 
@@ -250,21 +250,6 @@ old_hit_goes stays =
 abbrev loaded : List Call
 loaded = put 1 0 2 ∷ put 1 1 3 ∷ hit 1 4 5 ∷ []
 
-loaded_last : (p : ℕ) → WritesAt loaded p key → IsLastWrite loaded key p
-loaded_last p writes = record { writes = writes; last = λ other more before. no_after p other writes more before }
-  where
-    no_after : (p other : ℕ) → WritesAt loaded p key → WritesAt loaded other key → ¬ IsBefore loaded p other
-    no_after zero zero writes more before = omega (arith, before)
-    no_after zero (suc zero) writes more before = omega (arith, before)
-    no_after zero (suc (suc zero)) writes more before = no_write_at loaded 2 (1 ∷ []) 4 (hit 1 4 5) refl refl more
-    no_after zero (suc (suc (suc n))) writes more before = nothing_at loaded (suc (suc (suc n))) more.call refl more.at
-    no_after (suc zero) zero writes more before = omega (arith, before)
-    no_after (suc zero) (suc zero) writes more before = omega (arith, before)
-    no_after (suc zero) (suc (suc zero)) writes more before = no_write_at loaded 2 (1 ∷ []) 4 (hit 1 4 5) refl refl more
-    no_after (suc zero) (suc (suc (suc n))) writes more before = nothing_at loaded (suc (suc (suc n))) more.call refl more.at
-    no_after (suc (suc zero)) other writes more before = no_write_at loaded 2 (1 ∷ []) 4 (hit 1 4 5) refl refl writes
-    no_after (suc (suc (suc n))) other writes more before = nothing_at loaded (suc (suc (suc n))) writes.call refl writes.at
-
 loaded_hit : IsSettledHit 6 loaded 2
 loaded_hit = record {
   key = key;
@@ -276,8 +261,6 @@ loaded_hit = record {
     act = Put (1 ∷ []) never;
     ended = ended;
     alike = λ write last. alike write last.writes;
-    above = λ other write writes not last. absurd (not (loaded_last other writes));
-    begun = λ other h value moment writes not hits enough. absurd (not (loaded_last other writes));
   };
 }
   where

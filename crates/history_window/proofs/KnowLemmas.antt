@@ -1,5 +1,5 @@
 -- What is known of a key, call by call.
-use Rattle.std.proofs.Common.{◌≡◌, ℕ, ◌+◌, ◌&&◌, max, min, Bool, true, false, cond, Some, List, refl, sym, ap, ◌∙◌, subst, arith, inl, inr}
+use Rattle.std.proofs.Common.{◌≡◌, ℕ, ◌+◌, ◌&&◌, max, Bool, true, false, cond, Some, List, refl, sym, ap, ◌∙◌, subst, arith, inl, inr}
 use Rattle.std.specs.Prelude.{slice_get, ◌==◌}
 use Rattle.std.specs.Cmp.Lexicographic.{bytes_decides}
 use Rattle.std.specs.Str.{bytes_eq}
@@ -9,11 +9,11 @@ use Rattle.trace_file.specs.declared.act.Act.{Act}
 use Rattle.trace_file.specs.declared.act.Act.TheVariants.{Put, Remove, Hit, Miss}
 use Rattle.trace_file.specs.declared.call.Call.{Call}
 use Rattle.certificate_checker.specs.Latest.{IsWrite}
-use Rattle.certificate_finder.specs.Turns.{IsHit, WritesAt, end_at, start_at}
+use Rattle.certificate_finder.specs.Turns.{WritesAt, end_at, start_at}
 use Rattle.history_window.specs.declared.key_state.KeyState.{KeyState}
-use Rattle.history_window.specs.Knowing.{FirstKnown, IsBottom, IsFlag, IsTop}
+use Rattle.history_window.specs.Knowing.{FirstKnown, IsFlag, IsTop}
 use Rattle.history_window.specs.States.{Changes, acts_match, after_first, no_state}
-use Rattle.history_window.specs.Acts.{is_reading, is_writing}
+use Rattle.history_window.specs.Acts.{is_writing}
 use Rattle.history_window.proofs.CallLemmas.{end_is, start_is}
 use Rattle.history_window.proofs.ActLemmas.{is_writing_of, writing_is}
 
@@ -39,36 +39,6 @@ module _ (wanted : ℕ → Type 0) (measure : ℕ → ℕ) (upto : ℕ) where
     most = λ p less want. elim (cases_eq p upto) [
       | inl same ↦ absurd (none (subst wanted same want))
       | inr other ↦ had.most p (omega (arith, less, other)) want
-    ];
-    is = had.is;
-  }
-
-  pub bottom_more : (bottom : ℕ) → IsBottom wanted measure upto bottom → wanted upto → IsBottom wanted measure (upto + 1) (min bottom (measure upto))
-  bottom_more bottom had is = record {
-    least = λ p less want. elim (cases_eq p upto) [
-      | inl same ↦ let e = ap measure same in omega (arith, e)
-      | inr other ↦ let le = had.least p (omega (arith, less, other)) want in omega (arith, le)
-    ];
-    is = elim (cases_lt (measure upto) bottom) [
-      | inl less ↦ (upto, is, omega (arith, less))
-      | inr enough ↦ (had.is.0, had.is.1, had.is.2 ∙ omega (arith, enough))
-    ];
-  }
-
-  pub bottom_first : (flag : Bool) → IsFlag wanted upto flag → flag ≡ false → wanted upto → IsBottom wanted measure (upto + 1) (measure upto)
-  bottom_first flag had no' is = record {
-    least = λ p less want. elim (cases_eq p upto) [
-      | inl same ↦ let e = ap measure same in omega (arith, e)
-      | inr other ↦ absurd (let yes' = had.complete p (omega (arith, less, other)) want in let both : true ≡ false = sym yes' ∙ no' in cc)
-    ];
-    is = (upto, is, refl);
-  }
-
-  pub bottom_kept : (bottom : ℕ) → IsBottom wanted measure upto bottom → ¬ wanted upto → IsBottom wanted measure (upto + 1) bottom
-  bottom_kept bottom had none = record {
-    least = λ p less want. elim (cases_eq p upto) [
-      | inl same ↦ absurd (none (subst wanted same want))
-      | inr other ↦ had.least p (omega (arith, less, other)) want
     ];
     is = had.is;
   }
@@ -118,14 +88,6 @@ module _ (history : List Call) (upto : ℕ) (call : Call) (at : slice_get histor
       let wrote = is_writing_of call.act (subst (λ (c : Call). IsWrite c.act) mine writes.writes.1) in
       let same = (bytes_decides call.key key).1 (ap (λ (c : Call). c.key) (sym mine) ∙ writes.writes.0) in
       let both : true ≡ false = sym (and_from (is_writing call.act) (bytes_eq call.key key) wrote same) ∙ h in
-      cc
-
-  pub hits_not : (key : List ℕ) → (is_reading call.act && bytes_eq call.key key) ≡ false → (value : List ℕ) (moment : ℕ) → ¬ IsHit history upto key value moment
-  hits_not key h value moment hits =
-      let mine = same_Some hits.call call (sym hits.at ∙ at) in
-      let reads : is_reading call.act ≡ true = ap (λ (c : Call). is_reading c.act) (sym mine) ∙ ap is_reading hits.is in
-      let same = (bytes_decides call.key key).1 (ap (λ (c : Call). c.key) (sym mine) ∙ hits.one_key) in
-      let both : true ≡ false = sym (and_from (is_reading call.act) (bytes_eq call.key key) reads same) ∙ h in
       cc
 
 -- what is known of each key after a call, by what is known of the call's key and of others

@@ -1,18 +1,17 @@
 -- What is acceptable without settled hits is so with them.
-use Rattle.std.proofs.Common.{◌≡◌, ◌≢◌, ℕ, ◌<◌, ◌≤◌, ◌||◌, ◌&&◌, Bool, true, false, not, Some, None, List, ◌++◌, length, refl, sym, ap, ◌∙◌, subst, arith, inl, inr, ◌⊎◌}
-use Rattle.std.specs.Prelude.{All, filter, slice_get}
+use Rattle.std.proofs.Common.{◌≡◌, ◌≢◌, ℕ, ◌<◌, ◌≤◌, ◌&&◌, Bool, true, false, not, Some, None, List, ◌++◌, length, refl, sym, ap, ◌∙◌, subst, arith, inl, inr}
+use Rattle.std.specs.Prelude.{All, filter, nat_lt, slice_get}
 use Rattle.std.specs.List.{filter_map, list_any}
 use Rattle.std.specs.Cmp.Lexicographic.{bytes_decides}
 use Rattle.std.specs.Option.{option_map_or}
 use Rattle.std.specs.Str.{bytes_eq}
-use Rattle.std.proofs.lemmas.Bool.{and_from, and_parts, cases_Bool, cases_lt, not-true, not_from_false, or_cases, or_left, or_right}
+use Rattle.std.proofs.lemmas.Bool.{and_from, and_parts, cases_Bool, cases_lt, lt-ltb, ltb-true, not-true, not_from_false}
 use Rattle.std.proofs.lemmas.List.{length-append}
 use Rattle.std.proofs.lemmas.Option.{same_Some, slice_get_within}
-use Rattle.trace_file.specs.declared.act.Act.{Act}
-use Rattle.trace_file.specs.declared.act.Act.TheVariants.{Put, Remove, Hit, Miss}
+use Rattle.trace_file.specs.declared.act.Act.TheVariants.{Put, Hit}
 use Rattle.trace_file.specs.declared.call.Call.{Call}
 use Rattle.certificate_checker.specs.Deeds.{deed_of}
-use Rattle.certificate_checker.specs.Latest.{IsWrite, Writes}
+use Rattle.certificate_checker.specs.Latest.{Writes}
 use Rattle.certificate_checker.specs.Orders.{Precedes, in_order}
 use Rattle.certificate_checker.proofs.public_laws.Accepting.{found_at}
 use Rattle.certificate_checker.proofs.public_laws.Listing.{Member, all_member, filter_member, member_all, member_at, member_contained, member_either, member_filter, member_left, member_right, pairs_append, pairs_filter, pairs_from}
@@ -22,15 +21,13 @@ use Rattle.history_window.specs.Laws.{LinesAreAcceptable}
 use Rattle.history_window.specs.Settled.{AreUnsettled, IsLastWrite, IsSettled, IsSettledHit}
 use Rattle.history_window.specs.Standing.{Acceptable, StartFrom}
 use Rattle.history_window.specs.Windows.{IsBefore}
-use Rattle.history_window.specs.Acts.{is_writing}
 use Rattle.history_window.proofs.Ahead.{Ahead, Once, ahead_across, ahead_append, ahead_filter, ahead_left, filter_ahead, first_member, second_member}
-use Rattle.history_window.proofs.CallLemmas.{end_is, no_write, precedes_of, put_writes}
+use Rattle.history_window.proofs.CallLemmas.{end_is, precedes_of, put_writes}
 use Rattle.history_window.proofs.Joining.{apart, joined_acceptable, lapses_both, order_of, tail_reads}
-use Rattle.history_window.proofs.Keeping.{at_history, at_whole, holds_kept, in_later, in_list, is_in, kept_below, kept_calls, kept_holds, late_placed, list_in, places, places_once, places_within, starts_late}
+use Rattle.history_window.proofs.Keeping.{at_history, at_whole, holds_kept, in_list, is_in, kept_below, kept_calls, late_placed, list_in, places, places_once, places_within, starts_late}
 use Rattle.history_window.proofs.Lining.{AgreesLine, IsLawfulLine, ReadsIn, agrees_to, lawful_to, unreplaced}
 use Rattle.history_window.proofs.Picking.{IsLineOf, line_of, run, run_from}
 use Rattle.history_window.proofs.SettledLemmas.{IsLastOf, act_is, any_of, is_write_of, last_of, of_any, of_write, write_of, write_unsettled}
-use Rattle.history_window.proofs.ActLemmas.{is_writing_of, writing_is}
 
 module _ (bound : ℕ) (history later : List Call) (kept : List ℕ) (unsettled : AreUnsettled bound history kept) (late : StartFrom bound later) (line : List ℕ) (once : Once line) (below : (p : ℕ) → Member p line → p < length history) (each : (p : ℕ) → p < length history → Member p line) (intervals : All (λ call. call.start ≤ call.end) history) (agrees : AgreesLine history line) (lawful : IsLawfulLine history line) (whole_line : List ℕ) (is : IsLineOf (history ++ later) (places history later kept) whole_line) (lapses : All (λ (call : Call). call.start ≤ call.end) later) where
   abbrev Left : ℕ → Type 0
@@ -99,40 +96,44 @@ module _ (bound : ℕ) (history later : List Call) (kept : List ℕ) (unsettled 
   -- ---- first the hits that are forgotten and the writes of their keys, then the others
 
   abbrev is_source : ℕ → Bool
-  is_source p = option_map_or (λ (call : Call). is_writing call.act && has_gone call.key) (slice_get history p) false
+  is_source p = option_map_or (λ (call : Call). nat_lt call.start bound && has_gone call.key) (slice_get history p) false
 
   record IsSource (p : ℕ) : Type 0 where
     call : Call
     at : slice_get history p ≡ Some call
-    writes : IsWrite call.act
+    early : call.start < bound
     has : HasGone call.key
 
   source_is : (p : ℕ) → is_source p ≡ true → IsSource p
   source_is p h =
-      elim (slice_get history p) as (λ o. slice_get history p ≡ o → option_map_or (λ (call : Call). is_writing call.act && has_gone call.key) o false ≡ true → IsSource p) [
+      elim (slice_get history p) as (λ o. slice_get history p ≡ o → option_map_or (λ (call : Call). nat_lt call.start bound && has_gone call.key) o false ≡ true → IsSource p) [
         | None ↦ λ found no'. cc
-        | Some call ↦ λ found test. let both = and_parts (is_writing call.act) (has_gone call.key) test in record { call = call; at = found; writes = writing_is call.act both.0; has = has_gone_is call.key both.1 }
+        | Some call ↦ λ found test. let both = and_parts (nat_lt call.start bound) (has_gone call.key) test in record { call = call; at = found; early = ltb-true call.start bound both.0; has = has_gone_is call.key both.1 }
       ] refl h
 
-  is_source_of : (key : List ℕ) (p : ℕ) → HasGone key → WritesAt history p key → is_source p ≡ true
-  is_source_of key p has wrote =
-      ap (λ o. option_map_or (λ (call : Call). is_writing call.act && has_gone call.key) o false) wrote.at
-      ∙ and_from (is_writing wrote.call.act) (has_gone wrote.call.key) (is_writing_of wrote.call.act wrote.writes.1) (is_has_gone wrote.call.key (subst HasGone (sym wrote.writes.0) has))
+  is_source_of : (key : List ℕ) (p : ℕ) (call : Call) → HasGone key → slice_get history p ≡ Some call → call.key ≡ key → call.start < bound → is_source p ≡ true
+  is_source_of key p call has at one_key early =
+      ap (λ o. option_map_or (λ (c : Call). nat_lt c.start bound && has_gone c.key) o false) at
+      ∙ and_from (nat_lt call.start bound) (has_gone call.key) (lt-ltb call.start bound early) (is_has_gone call.key (subst HasGone (sym one_key) has))
 
-  source_over : (p : ℕ) (source : IsSource p) → source.call.end < bound
-  source_over p source = elim (cases_lt source.call.end bound) [
+  write_over : (key : List ℕ) (p : ℕ) → HasGone key → (wrote : WritesAt history p key) → wrote.call.end < bound
+  write_over key p has wrote = elim (cases_lt wrote.call.end bound) [
     | inl less ↦ less
-    | inr enough ↦ absurd (settled_of source.call.key source.has (λ settled.
-        let over = settled.ended p (record { call = source.call; at = source.at; writes = (refl, source.writes) }) in
-        let till = end_is history p source.call source.at in
+    | inr enough ↦ absurd (settled_of key has (λ settled.
+        let over = settled.ended p wrote in
+        let till = end_is history p wrote.call wrote.at in
         omega (arith, over, till, enough)))
   ]
 
-  abbrev goes_first : ℕ → Bool
-  goes_first p = is_gone p || is_source p
+  -- each write of such a key starts early enough
+  write_source : (key : List ℕ) (p : ℕ) → HasGone key → WritesAt history p key → is_source p ≡ true
+  write_source key p has wrote =
+      let over = write_over key p has wrote in
+      let span : wrote.call.start ≤ wrote.call.end = all_member (λ (c : Call). c.start ≤ c.end) history wrote.call intervals (member_at history p wrote.call wrote.at) in
+      is_source_of key p wrote.call has wrote.at wrote.writes.0 (omega (arith, over, span))
 
   abbrev front : List ℕ
-  front = filter goes_first line
+  front = filter is_source line
 
   abbrev goes_last : ℕ → Bool
   goes_last p = not (is_source p)
@@ -146,54 +147,53 @@ module _ (bound : ℕ) (history later : List Call) (kept : List ℕ) (unsettled 
       let both : true ≡ false = sym source ∙ stays in
       cc
 
-  gone_or_source : (p : ℕ) → Member p front → Member p gone ⊎ IsSource p
-  gone_or_source p m =
-      let found = member_filter goes_first line p m in
-      elim (or_cases (is_gone p) (is_source p) found.1) [
-        | inl goes ↦ inl (filter_member is_gone line p found.0 goes)
-        | inr source ↦ inr (source_is p source)
-      ]
+  front_source : (p : ℕ) → Member p front → IsSource p
+  front_source p m = source_is p (member_filter is_source line p m).1
 
   front_below : (p : ℕ) → Member p front → p < length history
-  front_below p m = below p (member_filter goes_first line p m).0
+  front_below p m = below p (member_filter is_source line p m).0
 
   front_call : (p : ℕ) (call : Call) → Member p front → slice_get (history ++ later) p ≡ Some call → slice_get history p ≡ Some call
   front_call p call m at = at_history history later p call (front_below p m) at
 
-  front_over : (p : ℕ) (call : Call) → Member p front → slice_get history p ≡ Some call → call.end < bound
-  front_over p call m at = elim (gone_or_source p m) [
-    | inl goes ↦ gone_over p call goes at
-    | inr source ↦ subst (λ (c : Call). c.end < bound) (same_Some source.call call (sym source.at ∙ at)) (source_over p source)
-  ]
+  front_early : (p : ℕ) (call : Call) → Member p front → slice_get history p ≡ Some call → call.start < bound
+  front_early p call m at = let source = front_source p m in subst (λ (c : Call). c.start < bound) (same_Some source.call call (sym source.at ∙ at)) source.early
 
   front_has : (p : ℕ) (call : Call) → Member p front → slice_get history p ≡ Some call → HasGone call.key
-  front_has p call m at = elim (gone_or_source p m) [
-    | inl goes ↦ record { hit = p; call = call; goes = goes; at = at; one_key = refl }
-    | inr source ↦ subst (λ (c : Call). HasGone c.key) (same_Some source.call call (sym source.at ∙ at)) source.has
-  ]
+  front_has p call m at = let source = front_source p m in subst (λ (c : Call). HasGone c.key) (same_Some source.call call (sym source.at ∙ at)) source.has
 
   tail_placed : (p : ℕ) → Member p tail → Member p (places history later kept)
   tail_placed p m = is.only p (member_filter goes_last whole_line p m).0
 
-  -- a write of such a key that stands in the tail comes later
+  -- each write of such a key stands in the front
   source_first : (key : List ℕ) (p : ℕ) → HasGone key → WritesAt history p key → Member p front
-  source_first key p has wrote = filter_member goes_first line p (listed p wrote.call wrote.at) (or_right (is_gone p) (is_source p) (is_source_of key p has wrote))
+  source_first key p has wrote = filter_member is_source line p (listed p wrote.call wrote.at) (write_source key p has wrote)
+
+  -- and each call of such a key in the tail starts at the stamp or later
+  tail_starts : (key : List ℕ) (q : ℕ) (call : Call) → HasGone key → Member q tail → slice_get (history ++ later) q ≡ Some call → call.key ≡ key → bound ≤ call.start
+  tail_starts key q call has n at one_key = elim (member_either kept (run (length history) (length later)) q (tail_placed q n)) [
+    | inl old ↦ elim (cases_lt call.start bound) [
+      | inl early ↦ absurd (no_source q n (is_source_of key q call has (at_history history later q call (kept_below history later Left kept unsettled q old) at) one_key early))
+      | inr enough ↦ enough
+    ]
+    | inr new ↦
+        let past = run_from (length history) (length later) q new in
+        starts_late history later bound q call late past.0 at
+  ]
+
+  -- what is forgotten stands in the front
+  gone_source : (p : ℕ) → p < length history → Member p gone → is_source p ≡ true
+  gone_source p less m =
+      let call = found_at history p less in
+      let over = gone_over p call.0 m call.1 in
+      let span : call.0.start ≤ call.0.end = all_member (λ (c : Call). c.start ≤ c.end) history call.0 intervals (member_at history p call.0 call.1) in
+      is_source_of call.0.key p call.0 (record { hit = p; call = call.0; goes = m; at = call.1; one_key = refl }) call.1 refl (omega (arith, over, span))
 
   -- ---- an order of all calls
 
   both_once : Once (front ++ tail)
-  both_once = pairs_append (λ (p q : ℕ). p ≢ q) front tail (pairs_filter goes_first (λ (p q : ℕ). p ≢ q) line once) (pairs_filter goes_last (λ (p q : ℕ). p ≢ q) whole_line is.once) (λ p q m n same.
-      let less = front_below p m in
-      elim (or_cases (is_gone p) (is_source p) (member_filter goes_first line p m).1) [
-        | inl goes ↦ elim (member_either kept (run (length history) (length later)) q (tail_placed q n)) [
-          | inl old ↦ gone_left p (filter_member is_gone line p (member_filter goes_first line p m).0 goes) (subst (λ x. Member x kept) (sym same) old)
-          | inr new ↦
-              let past = run_from (length history) (length later) q new in
-              let from = past.0 in
-              omega (arith, less, from, same)
-        ]
-        | inr source ↦ no_source q n (ap is_source (sym same) ∙ source)
-      ])
+  both_once = pairs_append (λ (p q : ℕ). p ≢ q) front tail (pairs_filter is_source (λ (p q : ℕ). p ≢ q) line once) (pairs_filter goes_last (λ (p q : ℕ). p ≢ q) whole_line is.once)
+      (λ p q m n same. no_source q n (ap is_source (sym same) ∙ (member_filter is_source line p m).1))
 
   both_below : (p : ℕ) → Member p (front ++ tail) → p < length (history ++ later)
   both_below p m = elim (member_either front tail p m) [
@@ -205,13 +205,13 @@ module _ (bound : ℕ) (history later : List Call) (kept : List ℕ) (unsettled 
   both_each p less = elim (cases_Bool (is_source p)) [
     | inl source ↦
         let it = source_is p source in
-        member_left front tail p (filter_member goes_first line p (listed p it.call it.at) (or_right (is_gone p) (is_source p) source))
+        member_left front tail p (filter_member is_source line p (listed p it.call it.at) source)
     | inr other ↦ elim (cases_lt p (length history)) [
       | inl early ↦ elim (cases_Bool (is_in kept p)) [
         | inl stays ↦
             let placed = is.each p (member_left kept (run (length history) (length later)) p (in_list kept p stays)) in
             member_right front tail p (filter_member goes_last whole_line p placed (not_from_false (is_source p) other))
-        | inr goes ↦ member_left front tail p (filter_member goes_first line p (each p early) (or_left (is_gone p) (is_source p) (not_from_false (is_in kept p) goes)))
+        | inr goes ↦ absurd (let source = gone_source p early (filter_member is_gone line p (each p early) (not_from_false (is_in kept p) goes)) in let both : true ≡ false = sym source ∙ other in cc)
       ]
       | inr past ↦
           let call = found_at (history ++ later) p less in
@@ -222,75 +222,37 @@ module _ (bound : ℕ) (history later : List Call) (kept : List ℕ) (unsettled 
 
   -- ---- it agrees with time key by key
 
-  -- a kept hit of such a key ended at the stamp or later
-  hit_lasts : (key : List ℕ) (q : ℕ) (call : Call) (value : List ℕ) (moment : ℕ) → HasGone key → Member q kept → slice_get history q ≡ Some call → call.key ≡ key → call.act ≡ Hit value moment → bound ≤ call.end
-  hit_lasts key q call value moment has old at one_key hits = elim (cases_lt call.end bound) [
-    | inl less ↦ absurd (settled_of key has (λ settled.
-        let till = end_is history q call at in
-        kept_holds history later Left kept unsettled q old (record {
-          key = key;
-          value = value;
-          moment = moment;
-          is = record { call = call; at = at; one_key = one_key; is = hits };
-          over = omega (arith, less, till);
-          settled = settled;
-        })))
-    | inr enough ↦ enough
-  ]
-
-  kept_late : (key : List ℕ) (q : ℕ) (call : Call) → HasGone key → Member q tail → Member q kept → slice_get history q ≡ Some call → call.key ≡ key → (act : Act) → call.act ≡ act → is_miss act ≡ false → bound ≤ call.end
-  kept_late key q call has n old at one_key (Put value expires) does no_miss = absurd (no_source q n (is_source_of key q has (record { call = call; at = at; writes = (one_key, put_writes call.act value expires does) })))
-  kept_late key q call has n old at one_key Remove does no_miss = absurd (no_source q n (is_source_of key q has (record { call = call; at = at; writes = (one_key, subst IsWrite (sym does) tt) })))
-  kept_late key q call has n old at one_key (Hit value moment) does no_miss = hit_lasts key q call value moment has old at one_key does
-  kept_late key q call has n old at one_key Miss does no_miss = cc
-
   across : (p q : ℕ) (one other : Call) → Member p front → Member q tail → slice_get (history ++ later) p ≡ Some one → slice_get (history ++ later) q ≡ Some other → one.key ≡ other.key → is_miss one.act ≡ false → is_miss other.act ≡ false → ¬ Precedes other one
   across p q one other m n at_p at_q same_key no_miss no_other before =
       let here = front_call p one m at_p in
-      let ends = front_over p one m here in
-      let span = lapse p one here in
-      elim (member_either kept (run (length history) (length later)) q (tail_placed q n)) [
-        | inl old ↦
-            let there = at_history history later q other (kept_below history later Left kept unsettled q old) at_q in
-            let enough = kept_late one.key q other (front_has p one m here) n old there (sym same_key) other.act refl no_other in
-            omega (arith, before, span, ends, enough)
-        | inr new ↦
-            let past = run_from (length history) (length later) q new in
-            let from = starts_late history later bound q other late past.0 at_q in
-            let lasts : other.start ≤ other.end = all_member (λ (c : Call). c.start ≤ c.end) later other lapses (in_later history later q other past.0 at_q) in
-            omega (arith, before, span, ends, from, lasts)
-      ]
+      let early = front_early p one m here in
+      let enough = tail_starts one.key q other (front_has p one m here) n at_q (sym same_key) in
+      let span : other.start ≤ other.end = all_member (λ (c : Call). c.start ≤ c.end) (history ++ later) other (lapses_both history later intervals lapses) (member_at (history ++ later) q other at_q) in
+      omega (arith, before, early, enough, span)
 
   -- ---- it is lawful
 
   front_lawful : IsLawfulLine (history ++ later) front
   front_lawful hit call value moment m at hits =
       let here = front_call hit call m at in
-      elim (gone_or_source hit m) [
-        | inl goes ↦
-            let r = lawful hit call value moment (listed hit call here) here hits in
-            let wrote : WritesAt history r.put call.key = record { call = r.call; at = r.at; writes = (r.one_key, put_writes r.call.act value r.expires r.is) } in
-            let passes = or_right (is_gone r.put) (is_source r.put) (is_source_of call.key r.put (front_has hit call m here) wrote) in
-            record {
-              put = r.put;
-              call = r.call;
-              expires = r.expires;
-              at = at_whole history later r.put r.call r.at;
-              one_key = r.one_key;
-              is = r.is;
-              live = r.live;
-              ahead = filter_ahead goes_first line r.put hit r.ahead passes (member_filter goes_first line hit m).1;
-              last = λ other write at_other writes a.
-                  let there = first_member front other hit a in
-                  elim (r.last other write (front_call other write there at_other) writes (ahead_filter goes_first line other hit a)) [
-                    | inl same ↦ inl same
-                    | inr sooner ↦ inr (filter_ahead goes_first line other r.put sooner (member_filter goes_first line other there).1 passes)
-                  ];
-            }
-        | inr source ↦
-            let mine = same_Some source.call call (sym source.at ∙ here) in
-            absurd (no_write call.act value moment hits (subst (λ (c : Call). IsWrite c.act) mine source.writes))
-      ]
+      let r = lawful hit call value moment (listed hit call here) here hits in
+      let passes = write_source call.key r.put (front_has hit call m here) (record { call = r.call; at = r.at; writes = (r.one_key, put_writes r.call.act value r.expires r.is) }) in
+      record {
+        put = r.put;
+        call = r.call;
+        expires = r.expires;
+        at = at_whole history later r.put r.call r.at;
+        one_key = r.one_key;
+        is = r.is;
+        live = r.live;
+        ahead = filter_ahead is_source line r.put hit r.ahead passes (member_filter is_source line hit m).1;
+        last = λ other write at_other writes a.
+            let there = first_member front other hit a in
+            elim (r.last other write (front_call other write there at_other) writes (ahead_filter is_source line other hit a)) [
+              | inl same ↦ inl same
+              | inr sooner ↦ inr (filter_ahead is_source line other r.put sooner (member_filter is_source line other there).1 passes)
+            ];
+      }
 
   -- ---- a hit of the tail that reads a write of the front
 
@@ -305,7 +267,7 @@ module _ (bound : ℕ) (history later : List Call) (kept : List ℕ) (unsettled 
     has = subst HasGone (ap (λ (c : Call). c.key) (same_Some source.call r.call (sym source.at ∙ put_at)) ∙ r.one_key) source.has
 
     put_over : r.call.end < bound
-    put_over = subst (λ (c : Call). c.end < bound) (same_Some source.call r.call (sym source.at ∙ put_at)) (source_over r.put source)
+    put_over = write_over call.key r.put has (record { call = r.call; at = put_at; writes = (r.one_key, put_writes r.call.act value r.expires r.is) })
 
     -- the last write of the key in the first line
     final : (last : ℕ) × IsLastOf (is_write_of history call.key) line last
@@ -341,35 +303,22 @@ module _ (bound : ℕ) (history later : List Call) (kept : List ℕ) (unsettled 
         (precedes_of history r.put write r.call wrote_it.call put_at wrote_it.at before) after
 
     -- so it is a last write
-    put_last : IsSettled bound history call.key → IsLastWrite history call.key r.put
-    put_last settled = record {
+    put_last : IsLastWrite history call.key r.put
+    put_last = record {
       writes = wrote;
       last = λ other writes before.
-          let not : ¬ IsLastWrite history call.key r.put = λ l. l.last other writes before in
-          elim (member_either kept (run (length history) (length later)) hit (tail_placed hit m)) [
-            | inl old ↦
-                let here = at_history history later hit call (kept_below history later Left kept unsettled hit old) at in
-                let enough = hit_lasts call.key hit call value moment has old here refl hits in
-                let till = end_is history hit call here in
-                let follows = settled.begun r.put hit value moment wrote not (record { call = call; at = here; one_key = refl; is = hits }) (omega (arith, enough, till)) in
-                none_between follows.write follows.last.writes (settled.above r.put follows.write wrote not follows.last)
-                (precedes_of history follows.write hit follows.last.writes.call call follows.last.writes.at here follows.before)
-            | inr new ↦
-                let past = run_from (length history) (length later) hit new in
-                let from = starts_late history later bound hit call late past.0 at in
-                let over = settled.ended final.0 final_wrote in
-                let till = end_is history final.0 final_wrote.call final_wrote.at in
-                none_between final.0 final_wrote (settled.above r.put final.0 wrote not final_last) (omega (arith, from, over, till))
-          ];
+          let over = write_over call.key other has writes in
+          let enough = tail_starts call.key hit call has m at refl in
+          none_between other writes before (omega (arith, over, enough));
     }
 
     final_is : final_wrote.call.act ≡ Put value r.expires
     unfolding put_last wrote final_wrote final_last
-    final_is = act_is final_wrote.call.act value r.expires (λ not. settled_of call.key has (λ settled. not (settled.alike final.0 final_last ∙ sym (settled.alike r.put (put_last settled)) ∙ r.is)))
+    final_is = act_is final_wrote.call.act value r.expires (λ not. settled_of call.key has (λ settled. not (settled.alike final.0 final_last ∙ sym (settled.alike r.put put_last) ∙ r.is)))
 
     none_later : (other : ℕ) (write : Call) → slice_get (history ++ later) other ≡ Some write → Writes (deed_of write) call.key → Member other tail → ¬ Ahead whole_line other r.put
     none_later other write at_other writes n sooner = elim (member_either kept (run (length history) (length later)) other (tail_placed other n)) [
-      | inl old ↦ no_source other n (is_source_of call.key other has (record { call = write; at = at_history history later other write (kept_below history later Left kept unsettled other old) at_other; writes = writes }))
+      | inl old ↦ no_source other n (write_source call.key other has (record { call = write; at = at_history history later other write (kept_below history later Left kept unsettled other old) at_other; writes = writes }))
       | inr new ↦
           let past = run_from (length history) (length later) other new in
           let from = starts_late history later bound other write late past.0 at_other in
@@ -396,12 +345,12 @@ module _ (bound : ℕ) (history later : List Call) (kept : List ℕ) (unsettled 
                   let here = front_call other write both.0 at_other in
                   elim (final.1.behind other (listed other write here) (of_write history call.key other (record { call = write; at = here; writes = writes }))) [
                     | inl same ↦ inl same
-                    | inr sooner ↦ inr (ahead_left front tail other final.0 (filter_ahead goes_first line other final.0 sooner (member_filter goes_first line other both.0).1 (member_filter goes_first line final.0 first).1))
+                    | inr sooner ↦ inr (ahead_left front tail other final.0 (filter_ahead is_source line other final.0 sooner (member_filter is_source line other both.0).1 (member_filter is_source line final.0 first).1))
                   ]
               | inr second ↦
                   let n = first_member tail other hit second in
                   absurd (elim (r.last other write at_other writes (ahead_filter goes_last whole_line other hit second)) [
-                    | inl same ↦ no_source other n (ap is_source same ∙ is_source_of call.key r.put has wrote)
+                    | inl same ↦ no_source other n (ap is_source same ∙ write_source call.key r.put has wrote)
                     | inr sooner ↦ none_later other write at_other writes n sooner
                   ])
             ]
@@ -437,7 +386,7 @@ module _ (bound : ℕ) (history later : List Call) (kept : List ℕ) (unsettled 
   both_acceptable : LinesAreAcceptable → Acceptable (history ++ later)
   both_acceptable lines_are =
       joined_acceptable (history ++ later) front tail both_once
-      (λ p q one other a at_p at_q. agrees p q one other (ahead_filter goes_first line p q a) (front_call p one (first_member front p q a) at_p) (front_call q other (second_member front p q a) at_q))
+      (λ p q one other a at_p at_q. agrees p q one other (ahead_filter is_source line p q a) (front_call p one (first_member front p q a) at_p) (front_call q other (second_member front p q a) at_q))
       (λ p q one other a. is.agrees p q one other (ahead_filter goes_last whole_line p q a))
       across lines_are (order_of (history ++ later) (front ++ tail) both_once both_below both_each) (lapses_both history later intervals lapses) front_lawful tail_hits
 

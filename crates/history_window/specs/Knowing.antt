@@ -1,7 +1,7 @@
 -- What the numbers that are known of a key say.
 use Rattle.std.specs.Prelude.{◌≡◌, ℕ, ◌<◌, ◌≤◌, ◌⊎◌, Bool, true, false, List, length}
 use Rattle.trace_file.specs.declared.call.Call.{Call}
-use Rattle.certificate_finder.specs.Turns.{IsHit, WritesAt, end_at, start_at}
+use Rattle.certificate_finder.specs.Turns.{WritesAt, end_at, start_at}
 use Rattle.history_window.specs.declared.key_state.KeyState.{KeyState}
 use Rattle.history_window.specs.States.{no_state}
 
@@ -10,24 +10,15 @@ pub record IsTop (wanted : ℕ → Type 0) (measure : ℕ → ℕ) (upto top : �
   pub most : (p : ℕ) → p < upto → wanted p → measure p ≤ top
   pub is : (top ≡ 0) ⊎ ((p : ℕ) × wanted p × (measure p ≡ top))
 
--- a number is the least measure of what is wanted below a position
-pub record IsBottom (wanted : ℕ → Type 0) (measure : ℕ → ℕ) (upto bottom : ℕ) : Type 0 where
-  pub least : (p : ℕ) → p < upto → wanted p → bottom ≤ measure p
-  pub is : (p : ℕ) × wanted p × (measure p ≡ bottom)
-
 -- whether something is wanted below a position
 pub record IsFlag (wanted : ℕ → Type 0) (upto : ℕ) (flag : Bool) : Type 0 where
   pub sound : flag ≡ true → (p : ℕ) × wanted p
   pub complete : (p : ℕ) → p < upto → wanted p → flag ≡ true
 
--- a write of the key that ends at a stamp or later, and one that ends before it
+-- a write of the key that ends at a stamp or later
 pub record IsLastBy (history : List Call) (key : List ℕ) (start p : ℕ) : Type 0 where
   pub writes : WritesAt history p key
   pub enough : start ≤ end_at history p
-
-pub record IsOtherBy (history : List Call) (key : List ℕ) (start p : ℕ) : Type 0 where
-  pub writes : WritesAt history p key
-  pub less : end_at history p < start
 
 -- two such writes that did not do the same
 pub record Differ (history : List Call) (key : List ℕ) (start : ℕ) : Type 0 where
@@ -37,35 +28,17 @@ pub record Differ (history : List Call) (key : List ℕ) (start : ℕ) : Type 0 
   pub second : IsLastBy history key start other
   pub apart : ¬ (first.writes.call.act ≡ second.writes.call.act)
 
--- a hit of the key that ends at the bound or later, and starts no later than a stamp
-pub record IsLateHit (history : List Call) (key : List ℕ) (bound least p : ℕ) : Type 0 where
-  pub value : List ℕ
-  pub moment : ℕ
-  pub is : IsHit history p key value moment
-  pub late : bound ≤ end_at history p
-  pub early : start_at history p ≤ least
-
 -- the greatest start and the greatest end of a key's writes are known
 pub record FirstKnown (history : List Call) (upto : ℕ) (key : List ℕ) (state : KeyState) : Type 0 where
   pub start : IsTop (λ p. WritesAt history p key) (start_at history) upto state.start
   pub end : IsTop (λ p. WritesAt history p key) (end_at history) upto state.end
   pub rest : state ≡ record no_state { start = state.start; end = state.end }
 
--- and its last writes and the others
+-- and whether its last writes did the same
 pub record SecondKnown (history : List Call) (upto : ℕ) (key : List ℕ) (state : KeyState) : Type 0 where
   pub start : IsTop (λ p. WritesAt history p key) (start_at history) (length history) state.start
   pub end : IsTop (λ p. WritesAt history p key) (end_at history) (length history) state.end
   pub known : IsFlag (IsLastBy history key state.start) upto state.known
-  pub least_start : state.known ≡ true → IsBottom (IsLastBy history key state.start) (start_at history) upto state.least_start
-  pub least_end : state.known ≡ true → IsBottom (IsLastBy history key state.start) (end_at history) upto state.least_end
   pub latest : state.known ≡ true → IsLastBy history key state.start state.latest
   pub differ : state.unlike ≡ true → Differ history key state.start
   pub same : state.unlike ≡ false → (p : ℕ) (one : IsLastBy history key state.start p) (other : IsLastBy history key state.start state.latest) → p < upto → one.writes.call.act ≡ other.writes.call.act
-  pub others : IsFlag (IsOtherBy history key state.start) upto state.others
-  pub others_end : IsTop (IsOtherBy history key state.start) (end_at history) upto state.others_end
-  pub calm : state.waits ≡ false
-
--- and whether some hit that had not ended at the bound follows no last write
-pub record ThirdKnown (history : List Call) (bound upto : ℕ) (key : List ℕ) (state : KeyState) : Type 0 where
-  pub second : SecondKnown history (length history) key (record state { waits = false })
-  pub waits : IsFlag (IsLateHit history key bound state.least_end) upto state.waits

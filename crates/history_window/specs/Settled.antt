@@ -1,5 +1,5 @@
 -- Keys whose last writes are over and alike, and hits that can exclude nothing any more.
-use Rattle.std.specs.Prelude.{◌≡◌, ℕ, ◌<◌, ◌≤◌, List, length}
+use Rattle.std.specs.Prelude.{◌≡◌, ℕ, ◌<◌, List, length}
 use Rattle.trace_file.specs.declared.act.Act.{Act}
 use Rattle.trace_file.specs.declared.call.Call.{Call}
 use Rattle.certificate_finder.specs.Lists.{AreAllBelow}
@@ -11,19 +11,11 @@ pub record IsLastWrite (history : List Call) (key : List ℕ) (write : ℕ) : Ty
   pub writes : WritesAt history write key
   pub last : (other : ℕ) → WritesAt history other key → ¬ IsBefore history write other
 
--- a last write of the key precedes the call at a position
-pub record FollowsLast (history : List Call) (key : List ℕ) (position : ℕ) : Type 0 where
-  pub write : ℕ
-  pub last : IsLastWrite history key write
-  pub before : IsBefore history write position
-
--- a key is settled at a stamp: its writes ended before it, the last ones all did the same, and each other one precedes all last ones; if there are others, each hit of the key that ended at the stamp or later follows a last one
+-- a key is settled at a stamp: its writes ended before it, and the last ones all did the same
 pub record IsSettled (bound : ℕ) (history : List Call) (key : List ℕ) : Type 0 where
   pub act : Act
   pub ended : (write : ℕ) → WritesAt history write key → end_at history write < bound
   pub alike : (write : ℕ) (last : IsLastWrite history key write) → last.writes.call.act ≡ act
-  pub above : (other write : ℕ) → WritesAt history other key → ¬ IsLastWrite history key other → IsLastWrite history key write → IsBefore history other write
-  pub begun : (other hit : ℕ) (value : List ℕ) (moment : ℕ) → WritesAt history other key → ¬ IsLastWrite history key other → IsHit history hit key value moment → bound ≤ end_at history hit → FollowsLast history key hit
 
 -- the hit at a position is settled: it ended before a stamp at which its key is settled
 pub record IsSettledHit (bound : ℕ) (history : List Call) (hit : ℕ) : Type 0 where

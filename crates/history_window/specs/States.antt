@@ -1,5 +1,5 @@
 -- What is known of a key, call by call.
-use Rattle.std.specs.Prelude.{◌≡◌, ℕ, max, min, Bool, true, false, ◌&&◌, ◌||◌, not, ◌==◌, nat_lt, nat_le, List, slice_get, if◌then◌else◌}
+use Rattle.std.specs.Prelude.{◌≡◌, ℕ, max, Bool, true, false, ◌&&◌, ◌||◌, not, ◌==◌, nat_lt, List, slice_get, if◌then◌else◌}
 use Rattle.std.specs.HashMap.{get_by, HashMap}
 use Rattle.std.specs.Option.{option_map_or}
 use Rattle.std.specs.Str.{bytes_eq}
@@ -15,14 +15,9 @@ abbrev pub no_state : KeyState
 no_state = record {
   start = 0;
   end = 0;
-  least_start = 0;
-  least_end = 0;
   known = false;
   latest = 0;
   unlike = false;
-  others = false;
-  others_end = 0;
-  waits = false;
 }
 
 -- what the map has for a key, by the key's bytes, whatever hasher it has
@@ -33,28 +28,13 @@ state_at states key = option_map_or (λ state. state) (get_by (λ k. bytes_eq ke
 abbrev pub after_first : KeyState → Call → KeyState
 after_first state call = record state { start = max state.start call.start; end = max state.end call.end }
 
--- the lesser of two stamps, if the first is known
-abbrev pub least_by : Bool → ℕ → ℕ → ℕ
-least_by known one other = if known then min one other else other
-
--- with a write at a position, by the greatest start of all
+-- with a write at a position, by the greatest start of all: only last writes count
 abbrev pub after_second : KeyState → ℕ → Call → Bool → KeyState
-after_second state position call unlike =
-    if nat_lt call.end state.start then record state { others = true; others_end = max state.others_end call.end } else record state {
-      least_start = least_by state.known state.least_start call.start;
-      least_end = least_by state.known state.least_end call.end;
-      known = true;
-      latest = position;
-      unlike = state.unlike || unlike;
-    }
-
--- with a hit, by the least end of the last writes
-abbrev pub after_third : KeyState → ℕ → Call → KeyState
-after_third state bound call = record state { waits = state.waits || (nat_le bound call.end && nat_le call.start state.least_end) }
+after_second state position call unlike = if nat_lt call.end state.start then state else record state { known = true; latest = position; unlike = state.unlike || unlike }
 
 -- whether the key is settled
 abbrev pub is_settled_by : KeyState → ℕ → Bool
-is_settled_by state bound = nat_lt state.end bound && (not state.unlike && (not state.others || (nat_lt state.others_end state.least_start && not state.waits)))
+is_settled_by state bound = nat_lt state.end bound && not state.unlike
 
 -- whether two acts write the same
 abbrev pub acts_match : Act → Act → Bool

@@ -1,8 +1,8 @@
 // The calls that are no settled hits.
-ghost use Rattle.std.specs.Prelude.{◌≡◌, ℕ, ◌≤◌, ◌<◌, ◌^◌, ◌↔◌, All, List, IfOk, IsTrue, OnOk, length};
+ghost use Rattle.std.specs.Prelude.{◌≡◌, ℕ, ◌<◌, ◌^◌, List, IfOk, IsTrue, OnOk, length};
 ghost use Rattle.trace_file.specs.Lent.{act_shown, call_shown};
 ghost use Rattle.certificate_finder.specs.Lists.{GrowsIf};
-ghost use Rattle.history_window.specs.Knowing.{ThirdKnown};
+ghost use Rattle.history_window.specs.Knowing.{SecondKnown};
 ghost use Rattle.history_window.specs.Settled.{AreUnsettled};
 ghost use Rattle.history_window.specs.States.{is_settled_by, settles, state_at};
 
@@ -17,23 +17,21 @@ use trace_file::{CallRef, History};
 
 /// The positions of all calls of a history but for its settled hits, in order.
 ///
-/// A hit is settled if it ended before a stamp, and all writes of its key did too. The last writes of the key, those that no write of it
-/// follows, did the same, and each other write precedes all of them. If there are others, each hit of the key that had not ended at
-/// the stamp follows one of the last. `hash_builder` hashes the keys. The time is that of some look-ups a call. `AllocError`
-/// comes if memory was refused, and if there are more than `MAX_CALLS` calls.
+/// A hit is settled if it ended before a stamp, if all writes of its key did too, and if the last of these, those that no write of the
+/// key follows, all did the same. `hash_builder` hashes the keys. The time is that of some look-ups a call. `AllocError` comes
+/// if memory was refused, and if there are more than `MAX_CALLS` calls.
 pub fn unsettled<S: BuildHasher + Drop>(
     alloc: Global,
     hash_builder: S,
     history: &History,
     bound: u64,
 ) -> Result<Vec<u32>, AllocError>
-    requires { All (λ call. call.start ≤ call.end) history.now }
     ensures { IfOk result (λ kept. AreUnsettled bound history.now kept.items) }
 {
     if history.len() > MAX_CALLS {
         return Err(AllocError);
     }
-    let states = states_of(alloc, hash_builder, history, bound)?;
+    let states = states_of(alloc, hash_builder, history)?;
     match unsettled_by(alloc, &states, history, bound) {
         Ok(kept) => Ok(kept),
         Err(refused) => Err(refused),
@@ -48,8 +46,7 @@ fn unsettled_by<'a, S: BuildHasher>(
     bound: u64,
 ) -> Result<Vec<u32>, AllocError>
     requires few { length history.now < 2 ^ 31 }
-    requires intervals { All (λ call. call.start ≤ call.end) history.now }
-    requires known { (key : List ℕ) → ThirdKnown history.now bound (length history.now) key (state_at states.now key) }
+    requires known { (key : List ℕ) → SecondKnown history.now (length history.now) key (state_at states.now key) }
     ensures { IfOk result (λ kept. AreUnsettled bound history.now kept.items) }
 {
     let mut kept = Vec::new(alloc);

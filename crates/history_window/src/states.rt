@@ -2,8 +2,8 @@
 ghost use Rattle.std.specs.Prelude.{◌≡◌, ℕ, ◌<◌, ◌^◌, List, true, IfOk, OnOk, length};
 ghost use Rattle.trace_file.specs.declared.act.Act.TheVariants as acts;
 ghost use Rattle.trace_file.specs.Lent.{act_shown, call_shown};
-ghost use Rattle.history_window.specs.Knowing.{FirstKnown, SecondKnown, ThirdKnown};
-ghost use Rattle.history_window.specs.States.{Changes, acts_match, after_first, after_second, after_third, state_at, unlike_by};
+ghost use Rattle.history_window.specs.Knowing.{FirstKnown, SecondKnown};
+ghost use Rattle.history_window.specs.States.{Changes, acts_match, after_first, after_second, state_at, unlike_by};
 ghost use Rattle.history_window.specs.Acts.{is_reading, is_writing};
 
 use crate::key_state::KeyState;
@@ -141,21 +141,6 @@ fn note_place<'a, S: BuildHasher>(
     set_state(states, call, state.after_place(position, call, unlike))
 }
 
-/// Notes a call, if it is a hit, once the last writes are known.
-fn note_hit<'a, S: BuildHasher>(
-    states: &mut HashMap<WrittenKey<'a>, KeyState, S>,
-    bound: u64,
-    call: &CallRef<'a>,
-) -> Result<(), AllocError>
-    ensures { OnOk result (Changes (is_reading (act_shown call.now.act)) (call_shown call.now) (after_third (state_at states.old call.now.key.now) bound (call_shown call.now)) (state_at states.old) (state_at states.new)) }
-{
-    if !is_hit(&call.act) {
-        return Ok(());
-    }
-    let state = state_of(states, WrittenKey { bytes: call.key });
-    set_state(states, call, state.after_hit(bound, call))
-}
-
 /// The greatest start and the greatest end of the writes of each key.
 fn first_pass<'a, S: BuildHasher + Drop>(
     alloc: Global,
@@ -172,7 +157,7 @@ fn first_pass<'a, S: BuildHasher + Drop>(
     Ok(states)
 }
 
-/// And the last writes of each key.
+/// And whether the last writes of each key did the same.
 fn second_pass<'a, S: BuildHasher>(
     states: &mut HashMap<WrittenKey<'a>, KeyState, S>,
     history: &'a History,
@@ -188,34 +173,16 @@ fn second_pass<'a, S: BuildHasher>(
     Ok(())
 }
 
-/// And whether a hit that had not ended at a stamp follows none of them.
-fn third_pass<'a, S: BuildHasher>(
-    states: &mut HashMap<WrittenKey<'a>, KeyState, S>,
-    history: &'a History,
-    bound: u64,
-) -> Result<(), AllocError>
-    requires { (key : List ℕ) → SecondKnown history.now (length history.now) key (state_at states.old key) }
-    ensures { OnOk result ((key : List ℕ) → ThirdKnown history.now bound (length history.now) key (state_at states.new key)) }
-{
-    for position in 0..history.len() {
-        let call = history.at(position);
-        note_hit(states, bound, &call)?;
-    }
-    Ok(())
-}
-
 /// What is known of each key of a history.
 pub(crate) fn states_of<'a, S: BuildHasher + Drop>(
     alloc: Global,
     hash_builder: S,
     history: &'a History,
-    bound: u64,
 ) -> Result<HashMap<WrittenKey<'a>, KeyState, S>, AllocError>
     requires { length history.now < 2 ^ 31 }
-    ensures { IfOk result (λ states. (key : List ℕ) → ThirdKnown history.now bound (length history.now) key (state_at states key)) }
+    ensures { IfOk result (λ states. (key : List ℕ) → SecondKnown history.now (length history.now) key (state_at states key)) }
 {
     let mut states = first_pass(alloc, hash_builder, history)?;
     second_pass(&mut states, history)?;
-    third_pass(&mut states, history, bound)?;
     Ok(states)
 }
