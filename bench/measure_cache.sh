@@ -5,8 +5,8 @@
 #                  they need no idle machine
 #        speed     calls a second and latencies at 1, 2 and 4 threads: needs an idle machine with four processors
 #        scale     the same load over 1, 16 and 64 GiB of sparse files, from an empty cache: needs an idle machine, and 5 GiB of memory
-#        server    the same stream to kangarood, and to memcached with and without extstore, which must be installed: needs an idle
-#                  machine
+#        server    one stream to a cache, and then to kangarood and to memcached with and without extstore, which must be installed, by
+#                  measure_server.py beside, which prints a table: needs an idle machine and python3
 #        plots     draws five pictures from what the other parts left in OUT
 # FOLDER has room for files of up to 1 GiB (scale: of a disk, 8 GiB), in which another user may write; the programs are those of
 # `make -C c kangaroo-bench server`.
@@ -75,39 +75,9 @@ scale() {
     done
 }
 
-# PROGRAM WORD..: starts a server, by options that memcached and kangarood both have.
-start_server() {
-    program=$1
-    shift
-    "$program" -u nobody -t 4 -c 64 -s "$folder/server" -a 0777 -m 64 "$@" &
-    server=$!
-    sleep 2
-}
-
-# NAME WORD..: a run of the server, with 16 requests in flight on each of four connections, then with one.
-of_server() {
-    name=$1
-    shift
-    for flight in 16 1; do
-        echo "$name, $flight in flight" >&2
-        [ "$flight" -eq 16 ] && part="--warmup 10M --operations 4M" || part="--operations 2M"
-        "$programs/kangaroo-bench" --memcached "$folder/server" --pipeline "$flight" --server-process "$server" --json \
-            $load $part >"$out/$name-$flight.json" || echo "$name: status $?" >&2
-    done
-    kill "$server"
-    wait "$server" || true
-}
-
 server() {
-    load="--keys 10M --distribution zipf:0.99 --sizes fixed:100 --threads 4"
-    cache beside-server $load --warmup 10M --operations 4M --flash 1G --memory 64M
-    rm -rf "$folder/cache" && mkdir "$folder/cache" && chmod 0777 "$folder/cache"
-    start_server "$programs/kangarood" --folder="$folder/cache" --flash=1G --sparse
-    of_server kangarood
-    start_server memcached
-    of_server memcached
-    start_server memcached -o "ext_path=$folder/extstore:1G,ext_item_size=64"
-    of_server extstore
+    cache beside-server --keys 10M --distribution zipf:0.99 --sizes fixed:100 --threads 4 --warmup 10M --operations 4M --flash 1G --memory 64M
+    python3 -B "$here/measure_server.py" beside "$folder" "$out"
 }
 
 plots() {
@@ -126,4 +96,4 @@ case $part in
     quality | speed | scale | server | plots) "$part" ;;
     *) echo "measure_cache.sh: $part is no part: quality, speed, scale, server or plots" >&2; exit 2 ;;
 esac
-rm -rf "$folder/cache" "$folder/server" "$folder/extstore"
+rm -rf "$folder/cache"

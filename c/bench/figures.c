@@ -1,10 +1,12 @@
 /* What a part of a run amounts to. figures.h says what each function is for. */
+#define _GNU_SOURCE
 #include "figures.h"
 #include "words.h"
 #include <errno.h>
 #include <inttypes.h>
 #include <math.h>
 #include <string.h>
+#include <time.h>
 
 const char *const count_names[COUNTS] = {"operations",  "gets",      "hits_memory", "hits_log",    "hits_set",
                                          "hits_server", "puts",      "fills",       "fills_stale", "removals",
@@ -24,9 +26,28 @@ uint64_t own_memory_of(uint64_t process) {
     return kib * 1024;
 }
 
+/* Nanoseconds that a process's threads have run, for themselves and in the system. */
+static uint64_t processor_time_of(uint64_t process) {
+    clockid_t clock;
+    struct timespec used = {0};
+    int cause = clock_getcpuclockid((pid_t)process, &clock);
+    if (cause == 0 && clock_gettime(clock, &used) != 0) cause = errno;
+    if (cause != 0) refuse_system("the clock of process %" PRIu64 ": %s", process, strerror(cause));
+    return (uint64_t)used.tv_sec * 1000000000 + (uint64_t)used.tv_nsec;
+}
+
 static void add_tally(const tally *from, snapshot *to) {
     for (int i = 0; i < COUNTS; i++) to->counts[i] += atomic_load_explicit(&from->counts[i], memory_order_relaxed);
     for (int i = 0; i < LATENCIES; i++) add_histogram(&to->latencies[i], &from->latencies[i]);
+}
+
+/* Bytes that a server says it has written to flash: memcached with extstore, or kangarood. */
+static uint64_t bytes_written_by(connection *server) {
+    uint64_t bytes = 0, log_pages = 0, set_pages = 0;
+    if (read_statistic(server, "extstore_bytes_written", &bytes)) return bytes;
+    (void)read_statistic(server, "kangaroo_log_pages_written", &log_pages);
+    (void)read_statistic(server, "kangaroo_set_pages_written", &set_pages);
+    return (log_pages + set_pages) * PAGE_BYTES;
 }
 
 void take_snapshot(const run *of, connection *control, snapshot *to) {
@@ -35,9 +56,10 @@ void take_snapshot(const run *of, connection *control, snapshot *to) {
     for (uint32_t i = 0; i < of->options->threads; i++) add_tally(of->workers[i].counted, to);
     for (int i = GET_MISS; i <= GET_SERVER; i++) add_histogram(&to->latencies[ALL_GETS], &to->latencies[i]);
     if (of->cache != NULL) kangaroo_counters_read(of->cache, &to->counters, sizeof to->counters);
-    if (control != NULL) (void)read_statistic(control, "extstore_bytes_written", &to->server_written);
+    if (control != NULL) to->server_written = bytes_written_by(control);
     if (of->cache != NULL || of->options->server_process > 0)
         to->own_memory = own_memory_of(of->options->server_process);
+    if (of->options->server_process > 0) to->server_processor = processor_time_of(of->options->server_process);
 }
 
 static latency_figures latency_of(const histogram *of) {
@@ -54,7 +76,8 @@ figures figures_between(const snapshot *earlier, const snapshot *later, histogra
                     .flash_bytes = flash_bytes_of(later) - flash_bytes_of(earlier),
                     .pages_read = later->counters.pages_read - earlier->counters.pages_read,
                     .copy_hits = later->counters.copy_hits - earlier->counters.copy_hits,
-                    .own_memory = later->own_memory};
+                    .own_memory = later->own_memory,
+                    .server_processor = later->server_processor - earlier->server_processor};
     for (int i = 0; i < COUNTS; i++) made.counts[i] = later->counts[i] - earlier->counts[i];
     for (int i = 0; i < LATENCY_ROWS; i++) {
         memset(&between[i], 0, sizeof between[i]);
@@ -83,6 +106,11 @@ double operations_a_second(const figures *of) {
     return of->seconds > 0 ? (double)of->counts[OPERATIONS] / of->seconds : NAN;
 }
 
+double processor_a_request(const figures *of) {
+    if (of->server_processor == 0) return NAN;
+    return ratio(of->server_processor, of->counts[OPERATIONS] + of->counts[FILLS] + of->counts[NO_MEMORY]) / 1e3;
+}
+
 void json_figures(json *to, const figures *of) {
     json_number(to, "seconds", of->seconds);
     json_number(to, "operations_per_second", operations_a_second(of));
@@ -95,6 +123,8 @@ void json_figures(json *to, const figures *of) {
     json_count(to, "pages_read", of->pages_read);
     json_number(to, "pages_read_per_get", pages_read_a_get(of));
     json_count(to, "own_memory", of->own_memory);
+    json_count(to, "server_processor_ns", of->server_processor);
+    json_number(to, "server_processor_us_per_request", processor_a_request(of));
 }
 
 static void json_point(json *to, double percent, uint64_t value) {

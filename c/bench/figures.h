@@ -14,6 +14,7 @@ typedef struct snapshot {
     kangaroo_counters counters; /* of the cache; all 0 if the target is a server */
     uint64_t server_written;    /* bytes that the server says it has written to flash */
     uint64_t own_memory;        /* bytes of the process's own memory that it has touched */
+    uint64_t server_processor;  /* nanoseconds of processors that the server's process has used; 0 if its number is not given */
     histogram latencies[LATENCY_ROWS];
 } snapshot;
 
@@ -29,6 +30,7 @@ typedef struct figures {
     uint64_t pages_read;
     uint64_t copy_hits; /* of those in sets, by copies in memory */
     uint64_t own_memory; /* at the end */
+    uint64_t server_processor;
     latency_figures latencies[LATENCY_ROWS];
 } figures;
 
@@ -53,6 +55,9 @@ double pages_read_a_get(const figures *of);
 /* Hits of copies by gets; not a number if there were no gets. */
 double copies_share_of(const figures *of);
 double operations_a_second(const figures *of);
+/* Microseconds of processors that the server used for each request, a fill being one too. Not a number if there were none, or
+ * if the server's process is not known. */
+double processor_a_request(const figures *of);
 
 /* Writes a member with the figures, but the latencies. */
 void json_figures(json *to, const figures *of);

@@ -125,7 +125,7 @@ static const word_row rows[] = {
      "leaves what the server holds; an older value that another --sizes made is then a wrong hit. If not given, "
      "flush_all empties the server first"},
     {"--server-process", "PID", OF_SERVER, THE_DRIVER, A_COUNT, AT(server_process), 1, 4194304, NULL,
-     "a server of this machine: its own memory is reported"},
+     "a server of this machine: its own memory is reported, and what it used of processors for each request"},
     {"--series", "FILE", OF_REPORT, THE_DRIVER, A_TEXT, AT(series), 0, 0, NULL,
      "writes a line of figures each second, with a first line of their names"},
     {"--json", NULL, OF_REPORT, BOTH, A_FLAG, AT(is_json), 0, 0, NULL, "prints the report as JSON"},

@@ -240,6 +240,7 @@ void print_text_report(const report *of) {
     print_parts(of, "bytes written to flash", 0, flash);
     print_parts(of, "  for each byte stored", 3, write_amplification_of);
     if (of->options->server == NULL) print_parts(of, "pages read for each get", 4, pages_read_a_get);
+    if (of->options->server_process > 0) print_parts(of, "server's us a request", 3, processor_a_request);
     print_latencies(of);
     print_memory(of);
 }

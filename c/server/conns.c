@@ -21,12 +21,14 @@ static void link_conn(worker *by, conn *of) {
     of->after = by->conns;
     if (by->conns != NULL) by->conns->before = of;
     by->conns = of;
+    atomic_fetch_add(&by->conn_count, 1);
 }
 
 static void unlink_conn(worker *by, conn *of) {
     if (of->before != NULL) of->before->after = of->after;
     else by->conns = of->after;
     if (of->after != NULL) of->after->before = of->before;
+    atomic_fetch_sub(&by->conn_count, 1);
 }
 
 /* Gives a connection to its worker, which may serve and close it before this returns: so under the lock. False: the system

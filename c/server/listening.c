@@ -1,5 +1,5 @@
 /* Sockets that listen: those of the settings, or those that systemd handed over. And the accepting of connections, by the
- * main thread, which deals them out to the workers in turn. */
+ * main thread, which deals them out to the workers. */
 #define _GNU_SOURCE
 #include "server.h"
 #include <fcntl.h>
@@ -168,10 +168,21 @@ static void refuse_client(server *of, int fd) {
     close(fd);
 }
 
+/* The worker that has the fewest connections; of several, the first from the one whose turn it is. By turns alone, clients that
+ * come again after others left could share a worker while another has none. */
+static worker *choose_worker(server *of) {
+    uint64_t threads = of->settings.threads, first = of->next_worker++;
+    worker *chosen = &of->workers[first % threads];
+    for (uint64_t i = 1; i < threads; i++) {
+        worker *other = &of->workers[(first + i) % threads];
+        if (atomic_load(&other->conn_count) < atomic_load(&chosen->conn_count)) chosen = other;
+    }
+    return chosen;
+}
+
 static void take_client(server *of, int fd) {
-    worker *by = &of->workers[of->next_worker++ % of->settings.threads];
     if (atomic_load(&of->curr_conns) >= of->settings.conns) refuse_client(of, fd);
-    else if (!conn_open(by, fd)) {
+    else if (!conn_open(choose_worker(of), fd)) {
         atomic_fetch_add(&of->rejected_conns, 1);
         tell(TELL_FAULTS, "kangarood: a client was refused: %s", strerror(errno));
     }

@@ -165,6 +165,7 @@ struct worker {
     int poll, wake;
     pthread_mutex_t list_lock; /* of conns, and of which descriptors they have */
     conn *conns;
+    atomic_uint_least64_t conn_count;
     uint8_t *in;    /* room for what a client left and one read more */
     buffer answers;
     counts counts;

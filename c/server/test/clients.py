@@ -1,5 +1,7 @@
 """Many clients, and clients that are slow, silent or too many."""
 import os
+import pathlib
+import re
 import socket
 import threading
 import time
@@ -78,6 +80,31 @@ def too_many():
         clients[4].close()
         wait_for(lambda: clients[0].stats()["curr_connections"] == "4", "one has left")
         it.client().ask(b"mn\r\n", b"MN\r\n")
+
+
+def switches(it):
+    """How often each worker of a server was switched off its processor."""
+    tasks = pathlib.Path(f"/proc/{it.process.pid}/task")
+    texts = {task.name: (task / "status").read_text(encoding="ascii") for task in tasks.iterdir() if task.name != str(it.process.pid)}
+    return {name: sum(map(int, re.findall(r"ctxt_switches:\s*(\d+)", text))) for name, text in texts.items() if "Name:\tkangarood\n" in text}
+
+
+@shows("clients that come after others left get the workers that have fewer")
+def dealt_out():
+    with server("-t", "2") as it:
+        clients = [it.client() for _ in range(8)]
+        for client in clients:
+            client.ask(b"mn\r\n", b"MN\r\n")
+        for client in clients[1::2]:  # one worker's
+            client.close()
+        wait_for(lambda: clients[0].stats()["curr_connections"] == "4", "four have left")
+        clients = clients[::2] + [it.client() for _ in range(4)]
+        before = switches(it)
+        for _ in range(250):
+            for client in clients:
+                client.ask(b"mn\r\n", b"MN\r\n")
+        fewer, more = sorted(count - before[name] for name, count in switches(it).items())[-2:]
+        expect(3 * fewer > 2 * more, f"each worker has four of eight clients: one was switched {fewer} times, and the other {more}")
 
 
 @shows("with idle_timeout a silent client is closed, and one that asks is not")

@@ -1,5 +1,6 @@
 """Each call of the system is refused in turn: the server ends with a message, or loses one client and serves the others."""
 import os
+import shutil
 
 from harness import PROGRAM, Server, Skipped, equal, expect, shows, wait_for
 
@@ -92,3 +93,48 @@ def use_until(it, mark):
         use(it)
         if os.path.exists(mark):
             return
+
+
+def value_of(number):
+    """The value of a key, of 1,000 bytes."""
+    return (b"value %d, " % number * 1000)[:1000]
+
+
+def fill_until_refused(client):
+    """Stores values until memory was refused to many. Returns the numbers of keys that were stored, and of those refused."""
+    stored, refused = [], []
+    for first in range(0, 500_000, 100):
+        client.send(b"".join(b"set k%d 0 0 1000\r\n%s\r\n" % (i, value_of(i)) for i in range(first, first + 100)))
+        for number in range(first, first + 100):
+            line = client.take_to(b"\r\n")
+            expect(line == b"STORED\r\n" or line.startswith(b"SERVER_ERROR out of memory"), f"the answer to a set: {line}")
+            (stored if line == b"STORED\r\n" else refused).append(number)
+        if len(refused) > 1000:
+            break
+    return stored, refused
+
+
+@shows("with half of the memory that -m says (ulimit -d) it ends at the start and says why, or tells clients that memory is out; each hit is right")
+def half_of_memory():
+    if PROGRAM["refuser"] is None or shutil.which("prlimit") is None:
+        raise Skipped("prlimit, or with a sanitizer, which takes memory of its own")
+    it = Server("-m", "64", under=["prlimit", f"--data={32 << 20}"])
+    try:
+        expect(not it.is_ready, "with the stacks of its threads a small one takes too much")
+        equal(it.process.wait(10), 71, "the status")
+        expect("kangarood: " in it.said(), f"it said {it.said()!r}")
+    finally:
+        it.remove()
+    it = Server("-m", "400", "--object-bytes", "1000", "--bring-back", "0", under=["prlimit", f"--data={200 << 20}"])
+    try:
+        expect(it.is_ready, f"a large one starts: {it.said()}")
+        client = it.client()
+        stored, refused = fill_until_refused(client)
+        expect(len(refused) > 1000, f"memory is refused: {len(stored)} were stored")
+        values = {number: client.found(b"k%d" % number) for number in [*stored[-20000:], *refused]}
+        expect(all(value in (None, value_of(number)) for number, value in values.items()), "each hit is right")
+        expect(any(values[number] for number in stored[-20000:]), "there are hits")
+        expect(not any(values[number] for number in refused), "a key whose store was refused has no value")
+        equal(it.stop(), 0, f"the status after SIGTERM, having said {it.said()}")
+    finally:
+        it.remove()

@@ -351,6 +351,7 @@ def test_memcached(bench):
             report = bench.read("kangaroo-bench", *words, *more, "--server-process", str(server.process.pid))
             check_report(report, 20000)
             expect(report["memory"]["own_at_end"] > 0, "the memory of the server")
+            expect(0.1 < report["all"]["server_processor_us_per_request"] < 1000, "what the server used of processors for a request")
     with Server(bench, ["memcached", *user, "-l", "127.0.0.1", "-p", "PORT", "-U", "0", "-t", "1"], free_port()) as server:
         check_report(bench.read("kangaroo-bench", "--memcached", server.path, "--keys", "5K", "--operations", "5K", "--pipeline", "9"), 5000)
     show("memcached itself, by a socket's path and by a port, with pipelines")

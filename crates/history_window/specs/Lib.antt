@@ -1,0 +1,7 @@
+pub mod Acts
+pub mod Knowing
+pub mod Laws
+pub mod Settled
+pub mod Standing
+pub mod States
+pub mod Windows

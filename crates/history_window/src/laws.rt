@@ -1,0 +1,44 @@
+// Laws of windows.
+ghost use Rattle.history_window.specs.Laws.{ForgettingGoesOn, LinesAreAcceptable, StandingChains, StandingGrows, UnsettledStand, WindowStands};
+
+use certificate_finder::sorted_spots_are_accepted;
+
+/// A lawful line of all calls that agrees with time key by key makes a history acceptable.
+pub fn lines_are_acceptable()
+    ensures { LinesAreAcceptable }
+{
+    sorted_spots_are_accepted();
+}
+
+/// The calls in the window of an acceptable history stand for it.
+pub fn window_stands()
+    ensures { WindowStands }
+{
+    lines_are_acceptable();
+}
+
+/// The calls of an acceptable history that are no settled hits stand for it.
+pub fn unsettled_stand()
+    ensures { UnsettledStand }
+{
+    lines_are_acceptable();
+}
+
+/// What stands for a history stands for it when both have the same calls more, and to a later stamp.
+pub fn standing_grows()
+    ensures { StandingGrows }
+{}
+
+/// What stands for calls that stand for others stands for those.
+pub fn standing_chains()
+    ensures { StandingChains }
+{}
+
+/// What stands for all calls so far goes on to do so: it gets the next calls, and if it is acceptable with them, it forgets all but a
+/// window and then the settled hits.
+pub fn forgetting_goes_on()
+    ensures { ForgettingGoesOn }
+{
+    window_stands();
+    unsettled_stand();
+}
