@@ -52,12 +52,20 @@ static void close_client(int *client) {
     *client = -1;
 }
 
+/* Waits until a client's socket has something to read. libFuzzer's own alarm interrupts a wait. */
+static void wait_to_read(int client) {
+    struct pollfd waits = {.fd = client, .events = POLLIN};
+    int ready;
+    do ready = poll(&waits, 1, WAIT_MS);
+    while (ready < 0 && errno == EINTR);
+    expect(ready > 0, "a client that sends no more is closed");
+}
+
 /* Sends no more, and reads until the server has closed. */
 static void end_client(int *client) {
     if (*client < 0) return;
     shutdown(*client, SHUT_WR);
-    struct pollfd waits = {.fd = *client, .events = POLLIN};
-    while (!read_some(*client)) expect(poll(&waits, 1, WAIT_MS) > 0, "a client that sends no more is closed");
+    while (!read_some(*client)) wait_to_read(*client);
     close_client(client);
 }
 

@@ -43,10 +43,12 @@ static bool enter(worker *by, conn *of) {
     return is_watched;
 }
 
-/* Takes a connection off the list, and closes its descriptor: stats conns looks at both under the lock. */
+/* Takes a connection off the list, and closes its descriptor: stats conns looks at both under the lock. The close alone would
+ * not end the watching if a process that was forked had the descriptor too. */
 static void leave(worker *by, conn *of) {
     pthread_mutex_lock(&by->list_lock);
     unlink_conn(by, of);
+    epoll_ctl(by->poll, EPOLL_CTL_DEL, of->fd, NULL);
     close(of->fd);
     pthread_mutex_unlock(&by->list_lock);
 }
