@@ -35,21 +35,22 @@ rivals() {
     "$programs/rivals" --json "$@" >"$out/$name.json"
 }
 
-# 8 million keys of which a fifth fits on flash; the second half of the calls counts.
+# 8 million keys of which a fifth fits on flash; the second half of the calls counts. Nothing comes back into memory if plain.
 stream="--flash 256M --keys 8M --distribution zipf:0.9 --sizes uniform:50:150 --warmup 12M --operations 12M"
+plain="--bring-back 0"
 
 quality() {
     for memory in 12M 16M 24M 32M 48M; do
-        cache "memory-$memory" $stream --memory "$memory"
+        cache "memory-$memory" $stream $plain --memory "$memory"
         rivals "rivals-$memory" $stream --memory "$memory"
     done
     for back in 0 1 4 8 16 32; do cache "bring-back-$back" $stream --memory 24M --bring-back "$back"; done
-    for threshold in 1 3 4; do cache "threshold-$threshold" $stream --memory 24M --threshold "$threshold"; done
-    for admit in 50 75 90; do cache "admit-$admit" $stream --memory 24M --admit "$admit"; done
-    cache over-time $stream --memory 24M --series "$out/over-time.csv"
+    for threshold in 1 3 4; do cache "threshold-$threshold" $stream $plain --memory 24M --threshold "$threshold"; done
+    for admit in 50 75 90; do cache "admit-$admit" $stream $plain --memory 24M --admit "$admit"; done
+    cache over-time $stream $plain --memory 24M --series "$out/over-time.csv"
     for size in 34 84 284 984 1984; do
         sized="--flash 256M --memory 24M --keys 2M --distribution zipf:0.9 --sizes fixed:$size --warmup 6M --operations 6M"
-        cache "size-$size" $sized
+        cache "size-$size" $sized $plain
         rivals "rivals-size-$size" $sized
     done
 }
