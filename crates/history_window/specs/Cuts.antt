@@ -15,14 +15,14 @@ IsAlone codes code = (other : CodedCall) → Contains codes other → other.writ
 abbrev pub IsClear : List CodedCall → CodedCall → Type 0
 IsClear codes code = (hit : CodedCall) (end start : ℕ) → Contains codes hit → hit.reads ≡ true → hit.key ≡ code.key → IsEarlyEnd codes hit end → IsLateStart codes hit start → end < code.start → ¬ (code.start ≤ start)
 
--- a cut
+-- a call in numbers is a cut
 pub record IsCutCode (codes : List CodedCall) (bound : ℕ) (code : CodedCall) : Type 0 where
   pub writes : code.writes ≡ true
   pub over : code.end < bound
   pub alone : IsAlone codes code
   pub clear : IsClear codes code
 
--- the turn of a cut
+-- a number is the turn of a cut
 pub record IsCutTurn (codes : List CodedCall) (bound turn : ℕ) : Type 0 where
   pub code : CodedCall
   pub listed : Contains codes code
@@ -53,7 +53,7 @@ pub record IsLateFrom (codes : List CodedCall) (code : CodedCall) (stamp : ℕ) 
   pub late : IsLateStart codes code start
   pub enough : stamp ≤ start
 
--- a call stays
+-- a call in numbers stays
 pub record StaysCode (codes : List CodedCall) (bound : ℕ) (code : CodedCall) : Type 0 where
   pub no_miss : (code.writes || code.reads) ≡ true
   pub uncut : (cut : CodedCall) → IsLastCode codes bound code.key cut → (code.position ≡ cut.position) ⊎ ((cut.end < code.start) ⊎ ((code.reads ≡ true) × IsLateFrom codes code cut.start))

@@ -15,7 +15,7 @@ pub record IsOverStart (codes : List CodedCall) (code : CodedCall) (stamp : ℕ)
   pub over : write.end < code.start
   pub is : write.start ≡ stamp
 
--- the last one, or 0 if there is none
+-- the last start of a write of a call's key that ended before the call started, or 0 if there is none
 pub record IsLastOver (codes : List CodedCall) (code : CodedCall) (stamp : ℕ) : Type 0 where
   pub most : (start : ℕ) → IsOverStart codes code start → start ≤ stamp
   pub is : (stamp ≡ 0) ⊎ IsOverStart codes code stamp
@@ -38,7 +38,7 @@ pub record IsLateStart (codes : List CodedCall) (code : CodedCall) (stamp : ℕ)
   pub begun : put.start ≤ code.end
   pub is : put.start ≡ stamp
 
--- a hit that has both
+-- a hit that has such an end and such a start
 pub record IsBlocking (codes : List CodedCall) (code : CodedCall) : Type 0 where
   pub reads : code.reads ≡ true
   pub end : ℕ
@@ -46,7 +46,7 @@ pub record IsBlocking (codes : List CodedCall) (code : CodedCall) : Type 0 where
   pub early : IsEarlyEnd codes code end
   pub late : IsLateStart codes code start
 
--- from the first such end of a hit on, the last such start
+-- a hit's block: from the first such end on, the last such start
 pub record IsBlock (codes : List CodedCall) (code : CodedCall) (peak : Peak) : Type 0 where
   pub reads : code.reads ≡ true
   pub end : ℕ
@@ -58,24 +58,24 @@ pub record IsBlock (codes : List CodedCall) (code : CodedCall) (peak : Peak) : T
   pub foot : peak.foot ≡ rank_of code.key end
   pub height : peak.height ≡ rank_of code.key start
 
--- that of some hit
+-- a peak is the block of some hit
 pub record IsSomeBlock (codes : List CodedCall) (peak : Peak) : Type 0 where
   pub hit : CodedCall
   pub listed : Contains codes hit
   pub is : IsBlock codes hit peak
 
--- it is listed for this hit
+-- the block of a hit is listed
 pub record IsBlocked (codes : List CodedCall) (peaks : List Peak) (hit : CodedCall) : Type 0 where
   pub peak : Peak
   pub listed : Contains peaks peak
   pub is : IsBlock codes hit peak
 
--- those of all hits below a position
+-- the blocks of all hits below a position
 pub record AreBlocksBelow (codes : List CodedCall) (upto : ℕ) (peaks : List Peak) : Type 0 where
   pub sound : All (IsSomeBlock codes) peaks
   pub complete : (k : ℕ) (hit : CodedCall) → k < upto → slice_get codes k ≡ Some hit → IsBlocking codes hit → IsBlocked codes peaks hit
 
--- those of all hits, in order
+-- the blocks of all hits, in order
 pub record AreBlocks (codes : List CodedCall) (peaks : Peaks) : Type 0 where
   pub sound : All (IsSomeBlock codes) peaks.items.items
   pub complete : (hit : CodedCall) → Contains codes hit → IsBlocking codes hit → IsBlocked codes peaks.items.items hit

@@ -10,17 +10,19 @@ use Rattle.history_window.specs.Codes.{AreSound}
 use Rattle.history_window.specs.Peaks.{ArePeaks}
 use Rattle.history_window.specs.Ranks.{AreSorted, rank_of, turn_of}
 
--- the turn at which a call starts, and the last turn of the stamp at which it ends
+-- the turn at which a call starts
 abbrev pub first_turn : CodedCall → ℕ
 first_turn code = turn_of code.key code.start code.position
 
+-- the last turn of the stamp at which a call ends
 abbrev pub last_turn : CodedCall → ℕ
 last_turn code = turn_of code.key code.end 4294967295
 
--- a put's start and its end, by the number of its value
+-- a put's start, by the number of its value
 abbrev pub put_start : CodedCall → Option ℕ
 put_start code = if code.puts then Some (rank_of code.value code.start) else None
 
+-- a put's end, by the number of its value
 abbrev pub put_end : CodedCall → Option ℕ
 put_end code = if code.puts then Some (rank_of code.value code.end) else None
 
@@ -47,7 +49,7 @@ pub record AreWriteTables (codes : List CodedCall) (tables : WriteTables) : Type
   pub spans : ArePeaks (filter_map write_span codes) tables.spans
   pub turns : AreSorted (filter_map write_turn codes) tables.turns.items
 
--- both, of calls in numbers
+-- the tables of calls in numbers
 pub record AreTables (tables : Tables) : Type 0 where
   pub sound : AreSound tables.codes.now
   pub hits : AreHitTables tables.codes.now tables.hits
