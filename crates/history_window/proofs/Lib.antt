@@ -19,3 +19,13 @@ mod SettledHits
 mod KnowLemmas
 mod KnowMore
 mod Telling
+mod ListLemmas
+mod NumberLemmas
+mod CodeLemmas
+mod RankLemmas
+mod PeakLemmas
+mod BlockLemmas
+mod AloneLemmas
+mod CutLemmas
+mod MatchLemmas
+mod WindowLemmas

@@ -16,3 +16,10 @@ is_reading (Put value expires) = false
 is_reading Remove = false
 is_reading (Hit value moment) = true
 is_reading Miss = false
+
+-- whether an act puts
+abbrev pub is_putting : Act → Bool
+is_putting (Put value expires) = true
+is_putting Remove = false
+is_putting (Hit value moment) = false
+is_putting Miss = false

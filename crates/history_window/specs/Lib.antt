@@ -1,7 +1,14 @@
 pub mod Acts
+pub mod Codes
+pub mod Cuts
 pub mod Knowing
 pub mod Laws
+pub mod Numbers
+pub mod Peaks
+pub mod Ranks
+pub mod Reaches
 pub mod Settled
 pub mod Standing
 pub mod States
+pub mod Tables
 pub mod Windows

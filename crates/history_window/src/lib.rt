@@ -1,14 +1,24 @@
 //! What a judge that reads a stream of calls may forget of those that it has read.
 #![tactic(auto)]
 
+mod blocks;
+mod coded_call;
+mod coding;
+mod cuts;
+mod history_word;
 mod key_state;
 mod laws;
+mod peak;
+mod peaks;
+mod ranks;
 mod settling;
 mod states;
-mod written_key;
+mod tables;
+mod windowing;
 
 pub use laws::{
     forgetting_goes_on, lines_are_acceptable, standing_chains, standing_grows, unsettled_stand,
     window_stands,
 };
 pub use settling::unsettled;
+pub use windowing::window;

@@ -1,5 +1,6 @@
 mod commands;
 mod finder;
+mod forgetting;
 mod pictures;
 mod skew;
 mod texts;

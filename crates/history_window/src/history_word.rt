@@ -1,4 +1,4 @@
-// A key of a history, as the map of its writes looks it up.
+// A key or a value of a history, as a map looks it up.
 ghost use Rattle.std.specs.Prelude.{[], ◌∷◌};
 ghost use Rattle.std.specs.Str.{bytes_eq};
 ghost use Rattle.std.specs.Cmp.Lexicographic.{bytes_decides, nat_list_eq_equiv};
@@ -7,28 +7,28 @@ ghost use Rattle.std.proofs.Common.{ap};
 
 use std::hash::{Hash, Hasher};
 
-/// The bytes of a key, lent by a history. They are hashed by one write, and not byte by byte.
+/// The bytes of a key or a value, lent by a history. They are hashed by one write, and not byte by byte.
 #[derive(Clone, Copy)]
-pub(crate) struct WrittenKey<'a> {
+pub(crate) struct HistoryWord<'a> {
     pub(crate) bytes: &'a [u8],
 }
 
-impl PartialEq for WrittenKey<'_> {
+impl PartialEq for HistoryWord<'_> {
     ghost eq = { λ a b. bytes_eq a.bytes.now b.bytes.now };
 
-    ghost laws = { on_per (λ key. key.bytes.now) (partial_equiv_from_equiv nat_list_eq_equiv) };
+    ghost laws = { on_per (λ word. word.bytes.now) (partial_equiv_from_equiv nat_list_eq_equiv) };
 
     fn eq(&self, other: &Self) -> bool {
         self.bytes == other.bytes
     }
 }
 
-impl Eq for WrittenKey<'_> {
-    ghost laws = { on_equiv (λ key. key.bytes.now) nat_list_eq_equiv };
+impl Eq for HistoryWord<'_> {
+    ghost laws = { on_equiv (λ word. word.bytes.now) nat_list_eq_equiv };
 }
 
-impl Hash for WrittenKey<'_> {
-    ghost hash_input = { λ key. key.bytes.now ∷ [] };
+impl Hash for HistoryWord<'_> {
+    ghost hash_input = { λ word. word.bytes.now ∷ [] };
 
     ghost respects_eq = { λ a b same. ap (λ bytes. bytes ∷ []) ((bytes_decides a.bytes.now b.bytes.now).0 same) };
 

@@ -1,0 +1,25 @@
+-- What the map has after the change, read at a word of the same bytes.
+use Rattle.std.proofs.Common.{◌≡◌, ℕ, cond, Some, None, List, arith}
+use Rattle.std.proofs.lemmas.Grind.{common_steps}
+use Rattle.std.specs.Str.{bytes_eq}
+use Rattle.history_window.specs.declared.history_word.HistoryWord.{HistoryWord}
+use Rattle.history_window.specs.Numbers.{number_at}
+use Rattle.history_window.proofs.NumberLemmas.{keeps_numbers, are_numbers}
+use Rattle.history_window.proofs.coding.number.Goals as goal
+
+lent : List ℕ → HistoryWord
+lent word = record { bytes = record { ref_ptr = (0, 0); now = word } }
+
+pub returns-clause-kept : goal.returns-clause-kept
+unfolding lent
+returns-clause-kept g c =
+    let fresh : number_at c.args.numbers.now c.args.bytes.now ≡ None = grind (arith, common_steps, c.in_default.ensures.value) in
+    let change : (q : List ℕ) → number_at c.insert.new.self q ≡ cond (bytes_eq c.args.bytes.now q) (Some c.args.new) (number_at c.args.numbers.now q) = λ q. grind (arith, common_steps, c.in_ok-insert.ensures.updates.0 (lent q)) in
+    keeps_numbers (number_at c.args.numbers.now) (number_at c.insert.new.self) c.args.bytes.now c.args.new fresh change
+
+pub returns-clause-numbers : goal.returns-clause-numbers
+unfolding lent
+returns-clause-numbers g c =
+    let fresh : number_at c.args.numbers.now c.args.bytes.now ≡ None = grind (arith, common_steps, c.in_default.ensures.value) in
+    let change : (q : List ℕ) → number_at c.insert.new.self q ≡ cond (bytes_eq c.args.bytes.now q) (Some c.args.new) (number_at c.args.numbers.now q) = λ q. grind (arith, common_steps, c.in_ok-insert.ensures.updates.0 (lent q)) in
+    are_numbers (number_at c.args.numbers.now) (number_at c.insert.new.self) c.args.bytes.now c.args.new fresh change c.requires
