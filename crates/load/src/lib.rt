@@ -7,6 +7,7 @@ mod crew;
 mod histogram;
 mod key_drawing;
 mod load;
+mod meanings;
 mod numbers;
 mod operations;
 mod serve_load;

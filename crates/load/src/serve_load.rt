@@ -33,7 +33,7 @@ pub struct ServeLoad {
     pub shards: u32,
     /// Slots of each lane for leases; 0 for no leases.
     pub leases: u32,
-    /// One of so many hits on flash has its object brought back into memory, in each lane; 0 brings none back.
+    /// Of so many hits on flash one has its object brought back into memory, in each lane; 0 brings none back.
     pub bring_back: u32,
     /// Seconds after which no caller begins an operation; 0 for no such limit.
     pub seconds: u32,

@@ -3,6 +3,7 @@ ghost use Rattle.std.specs.Prelude.{◌≡◌, ◌≤◌};
 ghost use Rattle.std.specs.Range.{range_inclusive_start, range_inclusive_end};
 ghost use Rattle.load.specs.Settings.{row_of, is_admitted, number_in};
 
+use crate::meanings;
 use record_pages::Field;
 use std::ops::RangeInclusive;
 
@@ -47,7 +48,7 @@ pub enum Setting {
     Shards,
     /// Slots of each lane for leases; 0 for no leases.
     Leases,
-    /// One of so many hits on flash has its object brought back into memory; 0 brings none back.
+    /// Of so many hits on flash one has its object brought back into memory; 0 brings none back.
     BringBack,
     /// Operations of each caller.
     ServedOperations,
@@ -152,81 +153,31 @@ impl Setting {
     /// in lines that fit 100 columns there.
     pub fn meaning(self) -> &'static str {
         match self {
-            Setting::Lanes => {
-                "Lanes (parts of the cache, each with its own lock and device), 1 to\n16. More lanes let more calls run side by side. [default: 4]"
-            }
-            Setting::Sets => {
-                "Sets (flash pages of 4,096 bytes that hold objects) per lane, 1 to\n65536. More sets hold more objects on flash. [default: 64]"
-            }
-            Setting::Memory => {
-                "Objects kept in memory per lane, 1 to 1048576. A larger number takes\nmore memory and pushes fewer objects out to flash. [default: 64]"
-            }
-            Setting::Segments => {
-                "Log segments on flash per lane, 2 to 256. More segments keep objects\nin the log for longer before they move to sets. [default: 8]"
-            }
-            Setting::SegmentPages => {
-                "Flash pages of 4,096 bytes per log segment, 1 to 64. A larger number\nkeeps objects longer in the log and takes more memory. [default: 4]"
-            }
-            Setting::Entries => {
-                "Entries of the log's index per lane, 1 to 1048576. More entries let\nmore objects be in the log and take more memory. [default: 4096]"
-            }
-            Setting::Threshold => {
-                "Minimum number of objects moved to a set at once, 1 to 32. A larger\nnumber writes less to flash and drops more objects. [default: 2]"
-            }
-            Setting::Admit => {
-                "Objects admitted to flash, of each 65536 pushed out of memory, 0 to\n65536. A larger number keeps more objects, and writes more to\nflash. [default: 65536]"
-            }
-            Setting::Callers => {
-                "Threads that call the cache, 1 to 64. More threads make more calls\nat once. [default: 4]"
-            }
-            Setting::Operations => {
-                "Operations per caller, 1 to 1000000. More operations take more time\nand more memory, and write a larger trace. [default: 10000]"
-            }
-            Setting::Keys => {
-                "Keys that the callers share, 1 to 1000000. With fewer keys callers\nmeet more often on the same key. [default: 1000]"
-            }
-            Setting::ValueBytes => {
-                "Bytes of each value, 0 to 2048. With larger values fewer objects fit\non a flash page. [default: 100]"
-            }
-            Setting::Gets => {
-                "Share of gets, 0 to 100 per cent. What --gets and --removes leave is\nthe share of puts. [default: 70]"
-            }
-            Setting::Removes => {
-                "Share of removes, 0 to 100 per cent. With --gets it is 100 per cent\nat most. [default: 5]"
-            }
-            Setting::Workers => {
-                "Threads that write the log and move objects to sets, 1 to 16. More\nthreads keep up with more puts. [default: 2]"
-            }
-            Setting::Seed => {
-                "Seed of the random choices, 0 to 4294967295. With the same seed each\ncaller makes the same operations. How the threads interleave\ndiffers. [default: 1]"
-            }
-            Setting::Ttl => {
-                "Lifetime of a value, counted in its caller's operations, 0 to\n1000000; 0 means forever. [default: 0]"
-            }
-            Setting::Shards => {
-                "Shards (groups of --lanes lanes), 1 to 1024. More shards hold more\nobjects and let more calls run side by side. [default: 1]"
-            }
-            Setting::Leases => {
-                "Lease slots per lane, 0 to 1048576; 0 turns leases off: gets that\nmiss do not fill. More slots make fewer fills stale. [default: 0]"
-            }
-            Setting::BringBack => {
-                "One of so many hits on flash brings its object back into memory, 0\nto 1000000; 0 brings none back. A larger number brings fewer back.\nAbove 0, three of four objects in memory are copies. [default: 0]"
-            }
-            Setting::ServedOperations => {
-                "Operations per caller, 1 to 1000000000. More operations take more\ntime, and no more memory. [default: 1000000]"
-            }
-            Setting::ServedKeys => {
-                "Keys of each caller, 1 to 100000000. No other caller uses them. Each\nkey takes 4 bytes of memory. [default: 1000]"
-            }
-            Setting::ServedValueBytes => {
-                "Bytes of each value, 8 to 2048. With larger values fewer objects fit\non a flash page. [default: 100]"
-            }
-            Setting::ServedTtl => {
-                "Lifetime of a value, counted in its caller's operations, 0 to\n1000000000; 0 means forever. [default: 0]"
-            }
-            Setting::Seconds => {
-                "Seconds after which no caller begins an operation, 0 to 2147483648;\n0 sets no limit. --operations may end it before. [default: 0]"
-            }
+            Setting::Lanes => meanings::LANES,
+            Setting::Sets => meanings::SETS,
+            Setting::Memory => meanings::MEMORY,
+            Setting::Segments => meanings::SEGMENTS,
+            Setting::SegmentPages => meanings::SEGMENT_PAGES,
+            Setting::Entries => meanings::ENTRIES,
+            Setting::Threshold => meanings::THRESHOLD,
+            Setting::Admit => meanings::ADMIT,
+            Setting::Callers => meanings::CALLERS,
+            Setting::Operations => meanings::OPERATIONS,
+            Setting::Keys => meanings::KEYS,
+            Setting::ValueBytes => meanings::VALUE_BYTES,
+            Setting::Gets => meanings::GETS,
+            Setting::Removes => meanings::REMOVES,
+            Setting::Workers => meanings::WORKERS,
+            Setting::Seed => meanings::SEED,
+            Setting::Ttl => meanings::TTL,
+            Setting::Shards => meanings::SHARDS,
+            Setting::Leases => meanings::LEASES,
+            Setting::BringBack => meanings::BRING_BACK,
+            Setting::ServedOperations => meanings::SERVED_OPERATIONS,
+            Setting::ServedKeys => meanings::SERVED_KEYS,
+            Setting::ServedValueBytes => meanings::SERVED_VALUE_BYTES,
+            Setting::ServedTtl => meanings::SERVED_TTL,
+            Setting::Seconds => meanings::SECONDS,
         }
     }
 
