@@ -16,6 +16,7 @@ mod memory_answer;
 mod moved_whole;
 mod moving;
 mod open_fault;
+mod returned;
 mod store;
 
 pub use aborted::Aborted;
@@ -24,8 +25,10 @@ pub use begin::Begin;
 pub use committed::Committed;
 pub use laws::{
     abort_shows, begin_shows, commit_shows, flush_shows, get_finds_last, get_shows,
-    opening_shows_nothing, put_shows, removal_shows, stores_are_in_order, whole_move_shows,
+    opening_shows_nothing, put_back_shows, put_shows, removal_shows, stores_are_in_order,
+    whole_move_shows,
 };
 pub use moved_whole::MovedWhole;
 pub use open_fault::OpenFault;
+pub use returned::Returned;
 pub use store::{Store, strikes_for_all};
