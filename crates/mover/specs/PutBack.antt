@@ -11,8 +11,8 @@ use Rattle.klog.specs.Append.{entering}
 use Rattle.klog.specs.Shown.{place_in}
 use Rattle.kset.specs.Notes.{lets_show}
 use Rattle.kset.specs.Sets.{notes_of}
-use Rattle.mover.specs.declared.returned.Returned.{Returned}
-use Rattle.mover.specs.declared.returned.Returned.TheVariants as returned
+use Rattle.mover.specs.declared.copy_fate.CopyFate.{CopyFate}
+use Rattle.mover.specs.declared.copy_fate.CopyFate.TheVariants as fate
 use Rattle.mover.specs.Lane.{LaneState}
 use Rattle.mover.specs.Get.{Step}
 use Rattle.mover.specs.Put.{append_step}
@@ -28,20 +28,20 @@ abbrev pub may_show : List ℕ → LaneState → Bool
 may_show key lane = may_show_at (place_in lane.log.shape key) lane
 
 -- what became of a copy, by what became of it as it was to enter the log; that nothing was to enter, or was declined, is never so
-abbrev pub returned_as : Pushed → Returned
-returned_as pushed.Logged = returned.Logged
-returned_as pushed.Full = returned.Full
-returned_as pushed.IndexFull = returned.IndexFull
-returned_as pushed.Nobody = returned.Known
-returned_as pushed.Declined = returned.Known
+abbrev pub fate_of : Pushed → CopyFate
+fate_of pushed.Logged = fate.Logged
+fate_of pushed.Full = fate.Full
+fate_of pushed.IndexFull = fate.IndexFull
+fate_of pushed.Nobody = fate.Known
+fate_of pushed.Declined = fate.Known
 
 -- the same of a step
-abbrev pub returned_step : Step Pushed → Step Returned
-returned_step step = record { reply = returned_as step.reply; lane = step.lane }
+abbrev pub fate_step : Step Pushed → Step CopyFate
+fate_step step = record { reply = fate_of step.reply; lane = step.lane }
 
 -- A copy is put back: it is dropped if flash may show its key, or if it fits on no page; else it is to enter the log.
-abbrev pub put_back_step : ℕ → Pair → LaneState → Step Returned
+abbrev pub put_back_step : ℕ → Pair → LaneState → Step CopyFate
 put_back_step size p lane =
-    if may_show p.key lane then record { reply = returned.Known; lane = lane }
-    else (if nat_lt (room size) (object_size p.key p.value.value) then record { reply = returned.TooLarge; lane = lane }
-    else returned_step (append_step size (entering p.key p.value) lane))
+    if may_show p.key lane then record { reply = fate.Known; lane = lane }
+    else (if nat_lt (room size) (object_size p.key p.value.value) then record { reply = fate.TooLarge; lane = lane }
+    else fate_step (append_step size (entering p.key p.value) lane))

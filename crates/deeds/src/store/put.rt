@@ -7,7 +7,7 @@ ghost use Rattle.trace_file.specs.declared.act.Act.{Act};
 
 use super::DeedStore;
 use memory_cache::Pair;
-use mover::{Returned, put_back_shows, put_shows, removal_shows};
+use mover::{CopyFate, put_back_shows, put_shows, removal_shows};
 use page_device::PageDevice;
 use record_pages::{Key, Pushed, PutFault, Value};
 use trace_file::ActRef;
@@ -37,7 +37,7 @@ impl<D: PageDevice<PAGE>, const PAGE: usize> DeedStore<D, PAGE> {
 
     /// Puts a copy back that was kept elsewhere, as `Store::put_back` does. On an honest device it has to be what its key has
     /// now, expired or not. That is no deed.
-    pub fn put_back(&mut self, pair: &Pair) -> Returned
+    pub fn put_back(&mut self, pair: &Pair) -> CopyFate
         requires current { IsTrue (D.honest self.old.store.device)
             → current self.old.deeds pair.now.key ≡ Some pair.now.value }
         ensures puts_back { StorePutsBack PAGE D.held pair.now self.old.store result self.new.store }

@@ -2,11 +2,11 @@
 ghost use Rattle.std.specs.Prelude.{◌≡◌};
 ghost use Rattle.kset.specs.Sets.{IsPlaceIn};
 ghost use Rattle.mover.specs.Lane.{lane_of};
-ghost use Rattle.mover.specs.PutBack.{may_show_at, returned_as};
+ghost use Rattle.mover.specs.PutBack.{may_show_at, fate_of};
 ghost use Rattle.mover.specs.Calls.{StorePutsBack};
 
 use super::Store;
-use crate::returned::Returned;
+use crate::copy_fate::CopyFate;
 use memory_cache::Pair;
 use page_device::PageDevice;
 use record_pages::{Pushed, is_too_large};
@@ -19,18 +19,18 @@ impl<D: PageDevice<PAGE>, const PAGE: usize> Store<D, PAGE> {
     /// made, and no memory taken.
     ///
     /// The caller has to hold that the pair is what its key has: that is the premise of `put_back_shows`, and is not tested.
-    pub fn put_back(&mut self, pair: &Pair) -> Returned
+    pub fn put_back(&mut self, pair: &Pair) -> CopyFate
         ensures { StorePutsBack PAGE D.held pair.now self.old result self.new }
     {
         let placed = self.place(&pair.key);
         if self.may_show(&placed) {
-            return Returned::Known;
+            return CopyFate::Known;
         }
         if is_too_large::<PAGE>(&pair.key, &pair.value.value) {
-            return Returned::TooLarge;
+            return CopyFate::TooLarge;
         }
         let pushed = self.append(pair);
-        returned_as(pushed)
+        fate_of(pushed)
     }
 
     // Whether flash may show the key of a place, as far as memory knows.
@@ -43,14 +43,14 @@ impl<D: PageDevice<PAGE>, const PAGE: usize> Store<D, PAGE> {
 }
 
 // What became of a copy, by what became of it as it was to enter the log.
-fn returned_as(pushed: Pushed) -> Returned
-    ensures { result ≡ returned_as pushed }
+fn fate_of(pushed: Pushed) -> CopyFate
+    ensures { result ≡ fate_of pushed }
 {
     match pushed {
-        Pushed::Logged => Returned::Logged,
-        Pushed::Full => Returned::Full,
-        Pushed::IndexFull => Returned::IndexFull,
-        Pushed::Nobody => Returned::Known,
-        Pushed::Declined => Returned::Known,
+        Pushed::Logged => CopyFate::Logged,
+        Pushed::Full => CopyFate::Full,
+        Pushed::IndexFull => CopyFate::IndexFull,
+        Pushed::Nobody => CopyFate::Known,
+        Pushed::Declined => CopyFate::Known,
     }
 }

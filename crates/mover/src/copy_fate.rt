@@ -2,7 +2,7 @@
 
 /// What became of a copy that memory had no room for.
 #[derive(Clone, Copy, Debug, PartialEq, Eq)]
-pub enum Returned {
+pub enum CopyFate {
     /// The tiers on flash may show its key, so it was dropped.
     Known,
     /// It fits on no page, and is lost.
