@@ -1,7 +1,7 @@
 -- What is told of a copy that is put back is its step.
-use Rattle.std.proofs.Common.{◌≡◌, ◌<◌, ℕ, Bool, true, false, List, Option, refl, sym, ap, ◌∙◌, arith}
+use Rattle.std.proofs.Common.{◌≡◌, ◌<◌, ℕ, Bool, true, false, refl, sym, ap, ◌∙◌}
 use Rattle.std.specs.Prelude.{nat_lt}
-use Rattle.std.proofs.lemmas.Bool.{lt-ltb, le-ltb}
+use Rattle.std.proofs.lemmas.Bool.{lt-ltb, ltb-true}
 use Rattle.record_pages.specs.Sizes.{object_size, room}
 use Rattle.record_pages.specs.declared.pushed.Pushed.{Pushed}
 use Rattle.set_hash.specs.declared.placed.Placed.{Placed}
@@ -25,7 +25,14 @@ module _ (size : ℕ) (p : Pair) (lane : LaneState) (at : Placed) (placed : at �
   pub large_told : may_show_at at lane ≡ false → room size < object_size p.key p.value.value → IsStep (put_back_step size p lane) fate.TooLarge lane
   large_told is large = rw (seen false is, lt-ltb (room size) (object_size p.key p.value.value) large) (refl, refl)
 
+  fits : ¬ (room size < object_size p.key p.value.value) → nat_lt (room size) (object_size p.key p.value.value) ≡ false
+  fits small = step (nat_lt (room size) (object_size p.key p.value.value)) refl
+    where
+      step : (b : Bool) → nat_lt (room size) (object_size p.key p.value.value) ≡ b → nat_lt (room size) (object_size p.key p.value.value) ≡ false
+      step true is = absurd (small (ltb-true _ _ is))
+      step false is = is
+
   -- it is to enter the log
   pub entered_told : may_show_at at lane ≡ false → ¬ (room size < object_size p.key p.value.value) → (pushed : Pushed) (new : LaneState) → IsStep (append_step size (entering p.key p.value) lane) pushed new →
       IsStep (put_back_step size p lane) (fate_of pushed) new
-  entered_told is small pushed new step = rw (seen false is, le-ltb (object_size p.key p.value.value) (room size) (omega (arith, small))) (ap fate_of step.0, step.1)
+  entered_told is small pushed new step = rw (seen false is, fits small) (ap fate_of step.0, step.1)

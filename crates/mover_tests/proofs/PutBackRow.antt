@@ -2,7 +2,7 @@
 use Rattle.std.proofs.Common.{◌≡◌, ◌≢◌, ◌<◌, ◌≤◌, ℕ, Bool, true, false, cond, List, ◌∷◌, Option, Some, refl, sym, ap, subst, ◌∙◌, arith}
 use Rattle.std.specs.Prelude.{◌↔◌, nat_lt, length, slice_get}
 use Rattle.std.specs.Option.{option_map}
-use Rattle.std.proofs.lemmas.Bool.{lt-ltb, le-ltb, ltb-lt, false≢true}
+use Rattle.std.proofs.lemmas.Bool.{lt-ltb, le-ltb, ltb-true, false≢true}
 use Rattle.record_pages.specs.Recs.{Rec}
 use Rattle.record_pages.specs.Sizes.{object_size, room}
 use Rattle.record_pages.specs.declared.pushed.Pushed.{Pushed}
@@ -18,11 +18,11 @@ use Rattle.mover.specs.declared.copy_fate.CopyFate.{CopyFate}
 use Rattle.mover.specs.declared.copy_fate.CopyFate.TheVariants as fate
 
 module _ (size : ℕ) (p : Pair) (lane : LaneState) where
-  r : Rec
+  abbrev r : Rec
   r = entering p.key p.value
 
   -- the step by whether flash may show the key, the copy is too large, the index has an entry left, and the log no place
-  by_tests : Bool → Bool → Bool → Bool → Step CopyFate
+  abbrev by_tests : Bool → Bool → Bool → Bool → Step CopyFate
   by_tests known large listed full =
       cond {A = Step CopyFate} known (record { reply = fate.Known; lane = lane }) (cond large (record { reply = fate.TooLarge; lane = lane })
       (fate_step (cond {A = Step Pushed} listed (cond full (record { reply = pushes.Full; lane = lane }) (record { reply = pushes.Logged; lane = lane_appended size lane r })) (record { reply = pushes.IndexFull; lane = lane }))))
@@ -87,4 +87,4 @@ module _ (size : ℕ) (p : Pair) (lane : LaneState) where
 
   -- an entry was left, as numbers
   pub entry_left : nat_lt (length lane.log.entries) lane.log.shape.limit ≡ true → length lane.log.entries < lane.log.shape.limit
-  entry_left is = ltb-lt _ _ is
+  entry_left is = ltb-true _ _ is

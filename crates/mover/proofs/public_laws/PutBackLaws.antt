@@ -1,5 +1,5 @@
 -- What a copy that is put back shows.
-use Rattle.std.proofs.Common.{◌≡◌, ℕ, Bool, true, false, cond, List, Option, Some, None, Contains, inl, inr, ⊎_elim, refl, sym, ap, subst}
+use Rattle.std.proofs.Common.{◌≡◌, ℕ, Bool, true, false, cond, List, Some, None, Contains, inl, inr, ⊎_elim, refl, sym, ap, subst}
 use Rattle.std.specs.Prelude.{nat_lt, length}
 use Rattle.std.proofs.lemmas.Option.{none-some}
 use Rattle.record_pages.specs.Recs.{Rec}
@@ -10,7 +10,7 @@ use Rattle.memory_cache.specs.declared.pair.Pair.{Pair}
 use Rattle.klog.specs.Append.{entering, is_full}
 use Rattle.mover.specs.Flight.{Flight}
 use Rattle.mover.specs.Lane.{LaneState}
-use Rattle.mover.specs.Visible.{pair_of, IsVisible, IsShown, ShowsFrom}
+use Rattle.mover.specs.Visible.{ShowsFrom}
 use Rattle.mover.specs.Get.{Step}
 use Rattle.mover.specs.Put.{lane_appended, append_step}
 use Rattle.mover.specs.PutBack.{may_show, put_back_step, fate_step}
@@ -33,7 +33,7 @@ append_leaves size r lane = step (nat_lt (length lane.log.entries) lane.log.shap
     step true false = (refl, refl)
 
 module _ (size : ℕ) (p : Pair) (lane : LaneState) where
-  entered : LaneState
+  abbrev entered : LaneState
   entered = (append_step size (entering p.key p.value) lane).lane
 
   stays : ShowsFrom None (Some p) lane lane
@@ -46,7 +46,7 @@ module _ (size : ℕ) (p : Pair) (lane : LaneState) where
       inl (inr (held_still lane entered q held (subst (λ (fs : List Flight). Contains fs held.its) (append_leaves size (entering p.key p.value) lane).0 held.flies)), λ is. none-some q.key is)
 
   -- the lane after a copy was put back, by what was found
-  after : Bool → Bool → LaneState
+  abbrev after : Bool → Bool → LaneState
   after known large =
       (cond {A = Step CopyFate} known (record { reply = fate.Known; lane = lane })
       (cond large (record { reply = fate.TooLarge; lane = lane }) (fate_step (append_step size (entering p.key p.value) lane)))).lane
