@@ -1,5 +1,5 @@
 -- What becomes of a copy that is put back, by what the lane has.
-use Rattle.std.proofs.Common.{◌≡◌, ◌≢◌, ◌<◌, ◌≤◌, ℕ, Bool, true, false, cond, List, ◌∷◌, Option, Some, refl, sym, ap, subst, ◌∙◌, arith}
+use Rattle.std.proofs.Common.{◌≡◌, ◌≢◌, ◌<◌, ◌≤◌, ℕ, Bool, true, false, cond, Some, refl, sym, ap, subst, ◌∙◌}
 use Rattle.std.specs.Prelude.{◌↔◌, nat_lt, length, slice_get}
 use Rattle.std.specs.Option.{option_map}
 use Rattle.std.proofs.lemmas.Bool.{lt-ltb, le-ltb, ltb-true, false≢true}
@@ -12,7 +12,7 @@ use Rattle.klog_index.specs.declared.entry.Entry.{Entry}
 use Rattle.klog.specs.Append.{entering, is_full}
 use Rattle.mover.specs.Lane.{LaneState}
 use Rattle.mover.specs.Get.{Step}
-use Rattle.mover.specs.Put.{IsStep, append_step, lane_appended}
+use Rattle.mover.specs.Put.{IsStep, lane_appended}
 use Rattle.mover.specs.PutBack.{may_show, put_back_step, fate_step}
 use Rattle.mover.specs.declared.copy_fate.CopyFate.{CopyFate}
 use Rattle.mover.specs.declared.copy_fate.CopyFate.TheVariants as fate
