@@ -1,5 +1,5 @@
 -- Each call of a store keeps what is true of it and of what was asked of it.
-use Rattle.std.proofs.Common.{◌≡◌, ◌≢◌, ℕ, Bool, List, [], ◌∷◌, ◌++◌, Option, Some, None, Result, Ok, Err, refl, ap, sym, ◌∙◌, subst, inl}
+use Rattle.std.proofs.Common.{◌≡◌, ℕ, Bool, List, [], ◌∷◌, ◌++◌, Option, Some, None, Result, Ok, Err, refl, ap, sym, ◌∙◌, subst, inl}
 use Rattle.std.specs.Prelude.{IsTrue, IfOk}
 use Rattle.std.specs.declared.alloc.AllocError.{AllocError}
 use Rattle.record_pages.specs.Expiry.{timed}
@@ -19,13 +19,13 @@ use Rattle.mover.specs.Lane.{lane_of}
 use Rattle.mover.specs.Laws.{IsInOrder, StepsInOrder, OpeningShowsNothing, GetShows}
 use Rattle.mover.specs.Visible.{IsShown, TellsVisible}
 use Rattle.deeds.specs.Sound.{act_of}
-use Rattle.deeds.proofs.public_laws.Sounding.{no_deed, reads, put_gives, sound_by, sound_put, sound_remove, none_some, some_same, hit_is, still_in_order}
+use Rattle.deeds.proofs.public_laws.Sounding.{no_deed, put_gives, sound_by, sound_put, sound_remove, none_some, some_same, hit_is, still_in_order}
 use Rattle.deeds.specs.Asked.{Asked, AreCurrent, IsServed, IsLiveHit, TellsExpiry}
 use Rattle.mover.specs.declared.answer_kind.AnswerKind.{AnswerKind}
 use Rattle.mover.specs.declared.answer_kind.AnswerKind.TheVariants as kinds
 use Rattle.mover.specs.Timed.{TellsExpiry as StoreTells, expiry_in_memory, expiry_of, first_timed}
 use Rattle.mover.proofs.public_laws.Showing.{timed_visible}
-use Rattle.certificate_checker.proofs.public_laws.LatestLemmas.{current-push, deed_kept, live_is, live_found}
+use Rattle.certificate_checker.proofs.public_laws.LatestLemmas.{live_is, live_found}
 use Rattle.certificate_checker.specs.Current.{given_at}
 use Rattle.record_pages.specs.Expiry.{value_at}
 use Rattle.record_pages.specs.declared.timed_value.TimedValue.{TimedValue}
