@@ -340,7 +340,11 @@ fn a_copy_that_flash_has_lost_enters_the_log(rt: HostRuntime) -> Result<(), Fail
     assert_eq!(rt; stray, None);
     let numbers = &counters.numbers;
     assert_eq!(rt;
-        (numbers[COPY_HITS], numbers[BROUGHT_BACK], numbers[PUSHED_COPIES]),
+        (
+            numbers[COPY_HITS],
+            numbers[BROUGHT_BACK],
+            numbers[PUSHED_COPIES]
+        ),
         (2, 8, 3)
     );
     assert_eq!(rt; numbers[LOGGED], 19);
@@ -375,7 +379,11 @@ fn a_copy_goes_where_flash_has_its_object_or_its_key_was_written(
     assert_eq!(rt; stray, None);
     let numbers = &counters.numbers;
     assert_eq!(rt;
-        (numbers[COPY_HITS], numbers[BROUGHT_BACK], numbers[PUSHED_COPIES]),
+        (
+            numbers[COPY_HITS],
+            numbers[BROUGHT_BACK],
+            numbers[PUSHED_COPIES]
+        ),
         (0, 7, 2)
     );
     assert_eq!(rt; numbers[LOGGED], 6);

@@ -43,7 +43,7 @@ put_back-fate-requires g c =
     let leaves : HitLeaves (Some made) a.key.now got.result got.new.found i.copies c.copy_hit.new.copies = subst (λ (m : Option NewCopy). HitLeaves m a.key.now got.result got.new.found i.copies c.copy_hit.new.copies) c.in-Some-copy_hit.is c.copy_hit.ensures in (
       search rules,
       subst (λ b. IfSome made.pushed (λ q. IsTrue b → current got.new.self.deeds q.key ≡ Some q.value)) (sym got.ensures.gets.reads.honesty)
-      (gone_current (IsTrue (d.honest i.asked.store.device)) i.asked.deeds got.new.self.deeds a.key.now a.moment got.result got.new.found made i.copies c.copy_hit.new.copies got.ensures.deeds leaves got.ensures.expires c.self.invariant),
+          (gone_current (IsTrue (d.honest i.asked.store.device)) i.asked.deeds got.new.self.deeds a.key.now a.moment got.result got.new.found made i.copies c.copy_hit.new.copies got.ensures.deeds leaves got.ensures.expires c.self.invariant),
     )
 
 pub invariant_of-self-2 : goal.invariant_of-self-2
