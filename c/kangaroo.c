@@ -328,7 +328,7 @@ static kl_counters count_held(kangaroo_cache *cache, uint32_t number, answer_cou
     return counted;
 }
 
-/* The counters of a cache begin with those of a lane, in the same order, all but two (layout.c, names.c). The others are
+/* The counters of a cache begin with those of a lane, in the same order, all but three (layout.c, names.c). The others are
  * counted here. */
 static void add_lane(kangaroo_cache *cache, uint32_t number, kangaroo_counters *to) {
     answer_counts answers;
@@ -339,6 +339,7 @@ static void add_lane(kangaroo_cache *cache, uint32_t number, kangaroo_counters *
     memcpy(to, sums, sizeof sums);
     to->copy_hits += counted.numbers[KL_FIRST_COUNTERS];
     to->brought_back += counted.numbers[KL_FIRST_COUNTERS + 1];
+    to->pushed_copies += counted.numbers[KL_FIRST_COUNTERS + 2];
     to->short_buffers += answers.short_buffers;
     to->put_too_large += answers.put_too_large;
     to->put_no_memory += answers.put_no_memory;

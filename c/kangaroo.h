@@ -282,9 +282,10 @@ typedef struct kangaroo_hit {
  * The value is copied into the buffer. At KANGAROO_OK the first hit->length bytes of the buffer are written and no
  * others; at any other status none. A buffer of KANGAROO_VALUE_MAX bytes is always enough. `hit` may be NULL. It is
  * filled at KANGAROO_OK and KANGAROO_SHORT_BUFFER, and is all zeros at any other status. Memory is taken only to bring an
- * object back (bring_back), and where it is refused the object stays on flash. May block on
- * the device: it reads the page of each log entry with the key's set and tag until it finds the key, and at most one
- * page of the sets. Mostly it reads one page or none.
+ * object back (bring_back), and where it is refused the object stays on flash. A copy that goes for it enters the log if
+ * flash has lost its object; that may make upkeep due, which begins with the next put. May block on the device: it
+ * reads the page of each log entry with the key's set and tag until it finds the key, and at most one page of the sets.
+ * Mostly it reads one page or none.
  *   KANGAROO_OK: a hit
  *   KANGAROO_ABSENT, KANGAROO_EXPIRED, KANGAROO_UNREADABLE, KANGAROO_DAMAGED: a miss; nothing has changed
  *   KANGAROO_SHORT_BUFFER: a hit that was not copied
@@ -406,7 +407,8 @@ KANGAROO_API kangaroo_status kangaroo_upkeep(kangaroo_cache *cache, uint32_t ste
  *   - the calls of get that were not refused are memory_hits + log_hits + set_hits + absent + expired + unreadable +
  *     damaged;
  *   - if no lease was copied, leases_given is at least fills_stored + fills_stale + leases_dropped;
- *   - declined + logged + log_full + index_full objects left memory by a put or fill. */
+ *   - declined + logged + log_full + index_full objects left memory: by a put or fill, or as copies that flash had lost,
+ *     by a get that brought another object back. */
 typedef struct kangaroo_counters {
     uint64_t memory_hits, log_hits, set_hits;      /* hits by tier, including those that a buffer was too short for */
     uint64_t absent, expired, unreadable, damaged; /* misses by cause */
@@ -431,6 +433,7 @@ typedef struct kangaroo_counters {
     uint64_t fills_wrong_lease; /* KANGAROO_STALE for no lease, or one of another key or cache */
     uint64_t copy_hits;         /* of set_hits, those that a copy in memory answered: flash was not read */
     uint64_t brought_back;      /* objects that came back into memory, as copies */
+    uint64_t pushed_copies;     /* copies that left memory and were dropped, since flash may have their object */
 } kangaroo_counters;
 
 /* Reads the counters of all lanes, added up: each lane's are of one moment, under its lock; the lanes' are read one

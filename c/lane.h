@@ -84,9 +84,9 @@ typedef struct kl_step {
     uint32_t asked_device, is_due;
 } kl_step;
 
-/* The numbers of one lane, in the order of the fields of kangaroo_counters: those up to segments_now, and then copy_hits
- * and brought_back. */
-enum { KL_COUNTERS = 33, KL_FIRST_COUNTERS = 31 };
+/* The numbers of one lane, in the order of the fields of kangaroo_counters: those up to segments_now, and then copy_hits,
+ * brought_back and pushed_copies. */
+enum { KL_COUNTERS = 34, KL_FIRST_COUNTERS = 31 };
 typedef struct kl_counters {
     uint64_t numbers[KL_COUNTERS];
 } kl_counters;

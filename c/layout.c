@@ -73,12 +73,12 @@ FIELD(kl_place, lane, 0, 4);
 FIELD(kl_place, word, 4, 4);
 WHOLE(kl_place, 8, 4);
 
-/* Counters, c_lane/src/counters.rt. The counters of a cache begin with all of them but two, in the same order (names.c). */
-FIELD(kl_counters, numbers, 0, 33 * 8);
-WHOLE(kl_counters, 33 * 8, 8);
+/* Counters, c_lane/src/counters.rt. The counters of a cache begin with all of them but three, in the same order (names.c). */
+FIELD(kl_counters, numbers, 0, 34 * 8);
+WHOLE(kl_counters, 34 * 8, 8);
 _Static_assert(offsetof(kangaroo_counters, short_buffers) == KL_FIRST_COUNTERS * sizeof(uint64_t) &&
-                   KL_COUNTERS == KL_FIRST_COUNTERS + 2,
-               "then come those that C counts, and the last two");
+                   KL_COUNTERS == KL_FIRST_COUNTERS + 3,
+               "then come those that C counts, and the last three");
 
 /* What a key's length, a value's length and an answer are: usize and i32 in the exports of kangaroo_c. */
 _Static_assert(sizeof(size_t) == 8 && sizeof(int32_t) == 4, "lengths and statuses");

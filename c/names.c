@@ -44,7 +44,7 @@ const char *kangaroo_build(void) {
 }
 
 /* The counters in their order: those that a lane counts, in the order of counters_with in
- * crates/c_lane/specs/Counting.antt, but that its last two come after those that are counted in C. */
+ * crates/c_lane/specs/Counting.antt, but that its last three come after those that are counted in C. */
 #define COUNTERS \
     COUNTER(memory_hits) COUNTER(log_hits) COUNTER(set_hits) COUNTER(absent) COUNTER(expired) COUNTER(unreadable) \
     COUNTER(damaged) COUNTER(puts) COUNTER(removes) COUNTER(leases_given) COUNTER(fills_stored) COUNTER(fills_stale) \
@@ -53,7 +53,8 @@ const char *kangaroo_build(void) {
     COUNTER(readmitted) COUNTER(dropped) COUNTER(segments_freed) COUNTER(upkeep_steps) COUNTER(put_steps) \
     COUNTER(upkeep_no_memory) COUNTER(bytes_put) COUNTER(memory_objects_now) COUNTER(log_objects_now) \
     COUNTER(segments_now) COUNTER(short_buffers) COUNTER(put_too_large) COUNTER(put_no_memory) \
-    COUNTER(leases_dropped) COUNTER(fills_wrong_lease) COUNTER(copy_hits) COUNTER(brought_back)
+    COUNTER(leases_dropped) COUNTER(fills_wrong_lease) COUNTER(copy_hits) COUNTER(brought_back) \
+    COUNTER(pushed_copies)
 
 #define COUNTER(name) #name,
 static const char *const counter_names[] = {COUNTERS};

@@ -80,7 +80,8 @@ static void shows_sums(void) {
     expect(c.fills_wrong_lease == told.wrong_leases, "wrong leases");
     expect(c.leases_given >= c.fills_stored + c.fills_stale + c.leases_dropped, "leases that ended");
     uint64_t left = c.declined + c.logged + c.log_full + c.index_full;
-    expect(left + c.memory_objects_now <= c.puts + c.fills_stored, "objects that left memory came in before");
+    expect(left + c.pushed_copies + c.memory_objects_now <= c.puts + c.fills_stored + c.brought_back,
+           "objects that left memory came in before");
     expect(c.memory_objects_now <= 400, "objects in memory");
     show("%d calls: hits %lu %lu %lu, misses %lu %lu, puts %lu, fills %lu, stale %lu, removals %lu: as told", CALLS,
          c.memory_hits, c.log_hits, c.set_hits, c.absent, c.expired, c.puts, c.fills_stored, c.fills_stale, c.removes);
@@ -107,7 +108,9 @@ static void shows_names(void) {
         {"pages_read", offsetof(kangaroo_counters, pages_read)}, {"dropped", offsetof(kangaroo_counters, dropped)},
         {"put_steps", offsetof(kangaroo_counters, put_steps)}, {"bytes_put", offsetof(kangaroo_counters, bytes_put)},
         {"segments_now", offsetof(kangaroo_counters, segments_now)},
-        {"fills_wrong_lease", offsetof(kangaroo_counters, fills_wrong_lease)}};
+        {"fills_wrong_lease", offsetof(kangaroo_counters, fills_wrong_lease)},
+        {"brought_back", offsetof(kangaroo_counters, brought_back)},
+        {"pushed_copies", offsetof(kangaroo_counters, pushed_copies)}};
     for (size_t i = 0; i < sizeof some / sizeof some[0]; i++)
         expect(strcmp(kangaroo_counter_name(some[i].at / 8), some[i].name) == 0, some[i].name);
     size_t count = sizeof(kangaroo_counters) / 8;

@@ -135,6 +135,7 @@ static void shows_gets(const char *folder) {
     kangaroo_counters_read(cache, &brought, sizeof brought);
     expect(refused.log_hits + refused.set_hits > 0 && refused.brought_back == 0, "hits on flash, of which none came back");
     expect(brought.brought_back > 0, "hits that came back once there was memory");
+    expect(refused.pushed_copies == 0 && brought.pushed_copies > 0, "copies that went for others, which flash may have");
     show("%ld gets refused memory to bring objects back: each is a hit; then %lu came back", hits, brought.brought_back);
     close_cache(cache);
 }

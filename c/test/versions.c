@@ -102,7 +102,8 @@ int main(void) {
     show("pages of the log written %lu, of sets %lu, read %lu; steps by threads %lu, by puts %lu; log full %lu",
          counters.log_pages_written, counters.set_pages_written, counters.pages_read, counters.upkeep_steps,
          counters.put_steps, counters.log_full);
-    show("objects brought back %lu, hits of their copies %lu", counters.brought_back, counters.copy_hits);
+    show("objects brought back %lu, hits of their copies %lu; copies dropped %lu", counters.brought_back,
+         counters.copy_hits, counters.pushed_copies);
     show("own memory %ld KiB behind a quarter, %ld at the end", before, after);
     expect(wrong == 0 && refused == 0, "no hit is wrong and no call refused");
     expect(hits[1] > 0 && hits[2] > 0 && hits[3] > 0, "hits in each tier");

@@ -12,8 +12,8 @@ use Rattle.c_lane.specs.Lane.{LaneState}
 -- The counters, by what the lane counts, what its device counts, how full its log is, and how many objects are in memory. Their order
 -- is that of the names in C: hits by tier; misses by cause, of which `unreadable` are those by a fault; puts; removals; leases; fills;
 -- pairs that left memory; pages of the log and of sets that were written; pages that were read; what was lost; what moves did; steps of
--- upkeep, those in help aside; those in help; moves that were refused memory; bytes; what there is now; hits of copies; and objects that
--- were brought back.
+-- upkeep, those in help aside; those in help; moves that were refused memory; bytes; what there is now; hits of copies; objects that were
+-- brought back; and copies that were dropped, since flash may have their object.
 abbrev pub counters_with : Counts → DeviceCounts → LogUsage → ℕ → Counters
 counters_with counts device usage memory_objects = record {
   numbers =
@@ -50,6 +50,7 @@ counters_with counts device usage memory_objects = record {
       ∷ (usage.segments - usage.free_segments)
       ∷ number counter.CopyHits counts
       ∷ number counter.BroughtBack counts
+      ∷ number counter.PushedCopies counts
       ∷ [];
 }
 

@@ -7,10 +7,10 @@ use page_device::DeviceCounts;
 use service_lane::{Counter, Counts};
 
 /// How many numbers of a lane C reads.
-pub const LANE_COUNTERS: usize = 33;
+pub const LANE_COUNTERS: usize = 34;
 
 /// The numbers of a lane that C reads, in the order of the fields of `kangaroo_counters` (c/kangaroo.h): from `memory_hits` to
-/// `segments_now`, and then `copy_hits` and `brought_back`. Each counts since the lane was opened, modulo 2^64; the three up to
+/// `segments_now`, and then `copy_hits`, `brought_back` and `pushed_copies`. Each counts since the lane was opened, modulo 2^64; the three up to
 /// `segments_now` are of the present.
 #[repr(C)]
 #[derive(Clone, Copy, Debug, PartialEq, Eq)]
@@ -67,6 +67,7 @@ impl Counters {
                 u64::from(usage.segments - usage.free_segments),
                 counts.of(Counter::CopyHits),
                 counts.of(Counter::BroughtBack),
+                counts.of(Counter::PushedCopies),
             ],
         }
     }

@@ -1,5 +1,5 @@
 -- What each call leaves of the pairs in memory, on any device.
-use Rattle.std.proofs.Common.{◌≡◌, ◌≢◌, ◌⊎◌, ℕ, Bool, true, false, List, Option, Some, None, Result, Ok, Err, refl, ap, ◌∙◌, subst, ⊎_elim, inl, inr, nat_lt, cond, length}
+use Rattle.std.proofs.Common.{◌≡◌, ◌⊎◌, ℕ, Bool, true, false, List, Option, Some, None, Result, Ok, Err, refl, ap, ◌∙◌, subst, ⊎_elim, inl, inr, nat_lt, cond, length}
 use Rattle.std.specs.Prelude.{Contains, IfOk, OnErr}
 use Rattle.std.specs.declared.alloc.AllocError.{AllocError}
 use Rattle.std.proofs.lemmas.List.Elements.{All-contains, All-contains_itself}

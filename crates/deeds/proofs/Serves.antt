@@ -1,5 +1,5 @@
 -- Each call of a store keeps what is true of it and of what was asked of it.
-use Rattle.std.proofs.Common.{◌≡◌, ◌≢◌, ℕ, Bool, List, [], ◌∷◌, ◌++◌, Option, Some, None, Result, Ok, Err, refl, ap, sym, ◌∙◌, subst, inl}
+use Rattle.std.proofs.Common.{◌≡◌, ℕ, Bool, List, [], ◌∷◌, ◌++◌, Option, Some, None, Result, Ok, Err, refl, ap, sym, ◌∙◌, subst, inl}
 use Rattle.std.specs.Prelude.{IsTrue, IfOk}
 use Rattle.std.specs.declared.alloc.AllocError.{AllocError}
 use Rattle.record_pages.specs.Expiry.{timed}
@@ -19,17 +19,17 @@ use Rattle.mover.specs.Lane.{lane_of}
 use Rattle.mover.specs.Laws.{IsInOrder, StepsInOrder, OpeningShowsNothing, GetShows}
 use Rattle.mover.specs.Visible.{IsShown, TellsVisible}
 use Rattle.deeds.specs.Sound.{act_of}
-use Rattle.deeds.proofs.public_laws.Sounding.{no_deed, reads, put_gives, sound_by, sound_put, sound_remove, none_some, hit_is, still_in_order}
-use Rattle.deeds.specs.Asked.{Asked, IsServed, IsLiveHit, TellsExpiry}
+use Rattle.deeds.proofs.public_laws.Sounding.{no_deed, put_gives, sound_by, sound_put, sound_remove, none_some, some_same, hit_is, still_in_order}
+use Rattle.deeds.specs.Asked.{Asked, AreCurrent, IsServed, IsLiveHit, TellsExpiry}
 use Rattle.mover.specs.declared.answer_kind.AnswerKind.{AnswerKind}
 use Rattle.mover.specs.declared.answer_kind.AnswerKind.TheVariants as kinds
 use Rattle.mover.specs.Timed.{TellsExpiry as StoreTells, expiry_in_memory, expiry_of, first_timed}
 use Rattle.mover.proofs.public_laws.Showing.{timed_visible}
-use Rattle.certificate_checker.proofs.public_laws.LatestLemmas.{current-push, deed_kept, live_is, live_found}
+use Rattle.certificate_checker.proofs.public_laws.LatestLemmas.{live_is, live_found}
 use Rattle.certificate_checker.specs.Current.{given_at}
 use Rattle.record_pages.specs.Expiry.{value_at}
 use Rattle.record_pages.specs.declared.timed_value.TimedValue.{TimedValue}
-use Rattle.memory_cache.specs.MemoryList.{after_put, after_remove}
+use Rattle.memory_cache.specs.MemoryList.{MemoryList, after_put, after_remove}
 use Rattle.memory_cache.specs.Laws.{FoundIsHeld}
 use Rattle.mover.specs.Get.{answer_by}
 use Rattle.mover.specs.Calls.{StoreGets}
@@ -85,6 +85,18 @@ module _ {D : Type 0} (honest : D → Bool) (held : D → ℕ → Option (List �
       sound = λ is.
           let was = subst IsTrue honesty is in
           sound_by struck None old.deeds old.deeds (lane_of held old.store) (lane_of held new) (λ p no. absurd (none_some no)) (λ p other. refl) (served.sound was) (steps was).shows;
+      lawful = λ is. served.lawful (subst IsTrue honesty is);
+    }
+
+    -- a copy that is put back, of what its key has
+    pub served_put_back : (p : Pair) → (IsTrue (honest old.store.device) → current old.deeds p.key ≡ Some p.value) → new.memory ≡ old.store.memory → (IsTrue (honest old.store.device) → StepsInOrder None (Some p) (lane_of held old.store) (lane_of held new)) →
+        IsServed honest held (record { store = new; deeds = old.deeds })
+    served_put_back p has leaves steps = record {
+      memory = subst (λ (m : MemoryList). AreCurrent old.deeds m.pairs) (sym leaves) served.memory;
+      order = λ is. (steps (subst IsTrue honesty is)).order;
+      sound = λ is.
+          let was = subst IsTrue honesty is in
+          sound_by None (Some p) old.deeds old.deeds (lane_of held old.store) (lane_of held new) (λ q it. subst (λ (x : Pair). current old.deeds x.key ≡ Some x.value) (some_same it) (has was)) (λ q other. refl) (served.sound was) (steps was).shows;
       lawful = λ is. served.lawful (subst IsTrue honesty is);
     }
 

@@ -24,3 +24,4 @@ mod AnswersOnSegments
 mod OldestOnSegments
 mod FullOnSegments
 mod PutLaws
+mod IndexLaws

@@ -1,7 +1,8 @@
 // The log of a lane.
 ghost use Rattle.std.specs.Prelude.{◌≡◌, ◌<◌, ◌≤◌, ◌+◌, ◌*◌, ◌^◌, ◌↔◌, ℕ, List, [], length, Option, IfOk, IsTrue, count_by};
 ghost use Rattle.record_pages.specs.Sizes.{IsPageSize};
-ghost use Rattle.klog_index.specs.Entries.{AreApart, is_of};
+ghost use Rattle.std.specs.List.{list_any};
+ghost use Rattle.klog_index.specs.Entries.{AreApart, is_of, has_tag};
 ghost use Rattle.klog.specs.Log.{LogState, shape_of, opening_log};
 ghost use Rattle.klog.specs.Names.{names, name_of, number_of, flushed_number, filled_number, device_page};
 ghost use Rattle.klog.specs.Shown.{IsSpelledOn, live_on, ArePlaced};
@@ -20,6 +21,7 @@ use crate::buffer::SegmentBuffer;
 use crate::log_usage::LogUsage;
 use klog_index::LogIndex;
 use record_pages::Layout;
+use set_hash::Placed;
 use std::alloc::{AllocError, Global};
 use std::marker::Model;
 
@@ -90,6 +92,13 @@ impl<const PAGE: usize> KLog<PAGE> {
         ensures { result ≡ count_by (is_of set) self.now.entries }
     {
         self.index.count(set)
+    }
+
+    /// Whether there is a live record of a set with a tag: that of the key which is placed there, or a neighbour's.
+    pub fn may_have(&self, placed: &Placed) -> bool
+        ensures { result ≡ list_any (has_tag placed.now.set placed.now.tag) self.now.entries }
+    {
+        self.index.find(placed.set, placed.tag, 0).is_some()
     }
 
     /// Whether there is no live record.

@@ -86,6 +86,14 @@ impl<const PAGE: usize> KSet<PAGE> {
         tell(&bytes, placed.set, key, moment, found)
     }
 
+    /// Whether the set of a key may have it: its filter admits the key, which is not struck. No page is read.
+    pub fn may_have(&self, placed: &Placed) -> bool
+        requires { IsPlaceIn self.now placed.now }
+        ensures { result ≡ lets_show (notes_of self.now placed.now.set) placed.now.hash }
+    {
+        self.sets.lets_show(placed.set, placed)
+    }
+
     /// Notes the record in a slot of a set as hit. It cannot fail.
     pub fn touch(&mut self, set: u32, slot: usize)
         requires set { set < set_count self.old }

@@ -8,6 +8,7 @@ mod Recalling
 mod Touching
 mod Timing
 mod Putting
+mod PuttingBack
 mod Firsts
 mod Placing
 mod Committing

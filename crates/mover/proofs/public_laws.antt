@@ -3,6 +3,7 @@ pub mod Beginning
 pub mod FlightLists
 pub mod Keeping
 pub mod Listing
+pub mod PutBackLaws
 pub mod Showing
 pub mod StepLaws
 pub mod WholeLaws

@@ -31,6 +31,8 @@ use Rattle.mover.specs.Lane.{lane_of}
 use Rattle.mover.specs.Get.{GetGives, answer_by, is_fault}
 use Rattle.mover.specs.Asking.{AsksNothing, IfThen, GetLeaves}
 use Rattle.mover.specs.Put.{put_step, IsStep}
+use Rattle.mover.specs.PutBack.{put_back_step}
+use Rattle.mover.specs.declared.copy_fate.CopyFate.{CopyFate}
 use Rattle.mover.specs.Strike.{removed}
 use Rattle.mover.specs.Flush.{LaneFlushes}
 use Rattle.mover.specs.Flight.{without_flight}
@@ -86,6 +88,12 @@ pub record StorePuts {D : Type 0} (size : ℕ) (held : D → ℕ → Option (Lis
   pub too_large : IsErrOf result TooLarge ↔ (room size < object_size p.key p.value.value)
   pub err : OnErr result (new ≡ old)
   pub gives : IfOk result (λ pushed. IsStep (put_step size old.layout.admit p word (lane_of held old)) pushed (lane_of held new))
+
+-- A copy that memory has no room for is put back. It makes no call of the device, and is its step whatever the device.
+pub record StorePutsBack {D : Type 0} (size : ℕ) (held : D → ℕ → Option (List ℕ)) (p : Pair) (old : StoreState D) (fate : CopyFate) (new : StoreState D) : Type 0 where
+  pub layout : new.layout ≡ old.layout
+  pub device : new.device ≡ old.device
+  pub gives : IsStep (put_back_step size p (lane_of held old)) fate (lane_of held new)
 
 -- A removal. It makes no call of the device, and is so whatever the device.
 pub record StoreRemoves {D : Type 0} (held : D → ℕ → Option (List ℕ)) (key : List ℕ) (old new : StoreState D) : Type 0 where

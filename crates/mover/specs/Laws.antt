@@ -24,6 +24,8 @@ use Rattle.mover.specs.Lane.{LaneState, lane_of}
 use Rattle.mover.specs.Visible.{IsShown, ShowsFrom, IsPlaced, TellsVisible}
 use Rattle.mover.specs.Get.{GetGives}
 use Rattle.mover.specs.Put.{put_step, IsStep}
+use Rattle.mover.specs.PutBack.{put_back_step}
+use Rattle.mover.specs.declared.copy_fate.CopyFate.{CopyFate}
 use Rattle.mover.specs.Strike.{removed}
 use Rattle.mover.specs.Flush.{LaneFlushes}
 use Rattle.mover.specs.Begin.{begin_step, BeginGives}
@@ -69,6 +71,14 @@ PutShows =
     → IsInOrder old
     → IsStep (put_step size admit p word old) pushed new
     → StepsInOrder (Some p.key) (Some p) old new
+
+-- a copy that is put back shows nothing that was not shown, but itself
+abbrev pub PutBackShows : Type 0
+PutBackShows =
+    (size : ℕ) (p : Pair) (old new : LaneState) (fate : CopyFate)
+    → IsInOrder old
+    → IsStep (put_back_step size p old) fate new
+    → StepsInOrder None (Some p) old new
 
 -- a removal shows nothing that was not shown, and nothing of its key
 abbrev pub RemovalShows : Type 0

@@ -5,6 +5,7 @@ pub mod Visible
 pub mod Strike
 pub mod Get
 pub mod Put
+pub mod PutBack
 pub mod Answers
 pub mod Asking
 pub mod Flush

@@ -1,6 +1,6 @@
 // Laws of a lane's steps, for those who record what a lane answers.
 ghost use Rattle.mover.specs.Answers.{GetFindsLast};
-ghost use Rattle.mover.specs.Laws.{GetShows, PutShows, RemovalShows, FlushShows, BeginShows, CommitShows, AbortShows, WholeMoveShows, OpeningShowsNothing, StoresAreInOrder};
+ghost use Rattle.mover.specs.Laws.{GetShows, PutShows, PutBackShows, RemovalShows, FlushShows, BeginShows, CommitShows, AbortShows, WholeMoveShows, OpeningShowsNothing, StoresAreInOrder};
 
 use klog::look_finds_newest;
 
@@ -20,6 +20,11 @@ pub fn get_finds_last()
 /// A put shows its pair, and nothing else that was not shown; it strikes its key.
 pub fn put_shows()
     ensures { PutShows }
+{}
+
+/// A copy that is put back shows its pair, and nothing else that was not shown; it strikes no key.
+pub fn put_back_shows()
+    ensures { PutBackShows }
 {}
 
 /// A removal shows nothing that was not shown, and nothing of its key.

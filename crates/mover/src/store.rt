@@ -23,6 +23,7 @@ mod get;
 mod locate;
 mod move_whole;
 mod put;
+mod put_back;
 mod remove;
 
 /// The store of a lane: the objects in memory, the log and the sets, over one device. Up to 8 moves of different sets

@@ -2,3 +2,4 @@ mod PutRow
 mod Struck
 mod OthersRow
 mod AbsentRow
+mod PutBackRow

@@ -8,6 +8,7 @@ mod going_back;
 mod into;
 mod moving;
 mod opening;
+mod putting_back;
 mod rows;
 mod run;
 mod several;

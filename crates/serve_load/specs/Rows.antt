@@ -53,8 +53,9 @@ put_latency_rows times =
     ∷ []
 
 -- what lanes count: how gets hit and missed, how puts were answered, how many leases were given and how fills were answered, what
--- became of the pairs that were pushed out of memory, which hits a copy answered and how many objects were brought back, which pages
--- were written and which were not, what moves did besides, how many steps of upkeep were done, and how many removals there were
+-- became of what was pushed out of memory, which hits a copy answered, how many objects were brought back and how many copies were
+-- dropped, which pages were written and which were not, what moves did besides, how many steps of upkeep were done, and how many
+-- removals there were
 abbrev pub count_rows : Counts → List Row
 count_rows c =
     row (codes "hits-memory") (number (number_in counter.MemoryHits c))
@@ -78,6 +79,7 @@ count_rows c =
     ∷ row (codes "pushed-index-full") (number (number_in counter.IndexFull c))
     ∷ row (codes "copy-hits") (number (number_in counter.CopyHits c))
     ∷ row (codes "brought-back") (number (number_in counter.BroughtBack c))
+    ∷ row (codes "pushed-copies") (number (number_in counter.PushedCopies c))
     ∷ row (codes "pages-written") (number (number_in counter.PagesWritten c))
     ∷ row (codes "pages-lost") (number (number_in counter.PagesLost c))
     ∷ row (codes "sets-written") (number (number_in counter.SetsWritten c))

@@ -21,7 +21,7 @@ pub(crate) enum Told {
 pub(crate) struct CountRow(&'static str, Told);
 
 /// All of them, in their order.
-const COUNT_ROWS: [CountRow; 32] = [
+const COUNT_ROWS: [CountRow; 33] = [
     CountRow("hits-memory", Told::Of(Counter::MemoryHits)),
     CountRow("hits-log", Told::Of(Counter::LogHits)),
     CountRow("hits-set", Told::Of(Counter::SetHits)),
@@ -49,6 +49,7 @@ const COUNT_ROWS: [CountRow; 32] = [
     CountRow("pushed-index-full", Told::Of(Counter::IndexFull)),
     CountRow("copy-hits", Told::Of(Counter::CopyHits)),
     CountRow("brought-back", Told::Of(Counter::BroughtBack)),
+    CountRow("pushed-copies", Told::Of(Counter::PushedCopies)),
     CountRow("pages-written", Told::Of(Counter::PagesWritten)),
     CountRow("pages-lost", Told::Of(Counter::PagesLost)),
     CountRow("sets-written", Told::Of(Counter::SetsWritten)),

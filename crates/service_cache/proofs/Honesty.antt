@@ -10,11 +10,12 @@ use Rattle.service_lane.specs.declared.helped.Helped.{Helped}
 use Rattle.service_lane.specs.declared.upkept.Upkept.{Upkept}
 use Rattle.service_lane.specs.declared.upkept.Upkept.TheVariants as upkept
 use Rattle.mover.specs.Store.{StoreState}
-use Rattle.service_lane.specs.Copies.{GetsCopied}
+use Rattle.service_lane.specs.Copies.{GetsCopied, copy_pushed}
 use Rattle.service_lane.specs.Serving.{Serving, Gets, PutsStore, FillsStore, Removes, asked_of}
 use Rattle.service_lane.specs.declared.copied.Copied.{Copied}
 use Rattle.service_lane.specs.declared.copied.Copied.TheVariants.{Nothing, Answered, Made}
 use Rattle.service_lane.specs.Upkeep.{Upkeeps, HelpsOnce, HelpsSteps, Helps}
+use Rattle.service_lane.proofs.public_laws.Returning.{back_device}
 
 module _ {D : Type 0} (size : ℕ) (honest : D → Bool) (failures : D → ℕ) (held : D → ℕ → Option (List ℕ)) where
   -- the device of a lane is as honest as that of another
@@ -27,7 +28,9 @@ module _ {D : Type 0} (size : ℕ) (honest : D → Bool) (failures : D → ℕ) 
       by : (copied : Copied) → GetsCopied size honest failures held copied key moment answer (asked_of old) (asked_of new) → IsAsHonest old new
       by Answered answers = ap (λ (s : StoreState D). honest s.device) answers.store
       by Nothing answers = answers.0.gets.reads.honesty
-      by Made answers = answers.0.gets.reads.honesty
+      by (Made fate) makes =
+          ap honest (back_device size held (copy_pushed (record { key = key; value = timed makes.value makes.expires }) old.copies) makes.between fate new.store makes.pushes)
+          ∙ makes.answers.gets.reads.honesty
 
   pub puts_keep : (key value : List ℕ) (expires word : ℕ) (pushed : Pushed) (old new : Serving D) → PutsStore size held (record { key = key; value = timed value expires }) word pushed old new → IsAsHonest old new
   puts_keep key value expires word pushed old new puts = ap honest puts.puts.device

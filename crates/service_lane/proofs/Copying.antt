@@ -1,7 +1,8 @@
 -- That copies stay what their keys have, and what a live copy gives.
-use Rattle.std.proofs.Common.{◌≡◌, ◌≢◌, ℕ, eqb, Bool, true, false, List, [], ◌∷◌, ◌++◌, Option, Some, None, Ok, ap, sym, ◌∙◌, refl, subst, cond, inl, inr}
-use Rattle.std.specs.Prelude.{IsTrue, option_and_then}
+use Rattle.std.proofs.Common.{◌≡◌, ◌≢◌, ℕ, eqb, Bool, true, false, List, [], ◌∷◌, ◌++◌, Option, Some, None, Ok, ap, sym, ◌∙◌, refl, subst, cond, inl, inr, ⊎_elim}
+use Rattle.std.specs.Prelude.{IsTrue, IfSome, option_and_then}
 use Rattle.std.proofs.lemmas.Bool.Decides.{eqb_tells}
+use Rattle.std.proofs.lemmas.Option.{none-some}
 use Rattle.std.proofs.lemmas.List.Elements.{All-contains, All-from_recursion}
 use Rattle.record_pages.specs.Expiry.{is_live, timed}
 use Rattle.record_pages.specs.declared.answer.Answer.{Answer}
@@ -10,12 +11,16 @@ use Rattle.record_pages.specs.declared.tier.Tier.{Tier}
 use Rattle.record_pages.specs.declared.tier.Tier.TheVariants.{Memory, Log, Set}
 use Rattle.record_pages.specs.declared.timed_value.TimedValue.{TimedValue}
 use Rattle.memory_cache.specs.declared.pair.Pair.{Pair}
-use Rattle.memory_cache.specs.MemoryList.{after_get, after_put, after_remove, value_in}
+use Rattle.memory_cache.specs.MemoryList.{after_get, after_put, after_remove, entered, without, value_in}
 use Rattle.memory_cache.specs.Laws.{FoundIsHeld}
 use Rattle.mover.specs.Calls.{StoreGets}
 use Rattle.mover.specs.Get.{answer_of}
 use Rattle.mover.specs.declared.answer_kind.AnswerKind.{AnswerKind}
 use Rattle.mover.specs.declared.answer_kind.AnswerKind.TheVariants as kinds
+use Rattle.mover.specs.declared.copy_fate.CopyFate.{CopyFate}
+use Rattle.mover.specs.Store.{StoreState}
+use Rattle.mover.proofs.public_laws.Listing.{got, split}
+use Rattle.mover.proofs.public_laws.Showing.{without_key}
 use Rattle.certificate_checker.specs.Deeds.{Deed}
 use Rattle.certificate_checker.specs.Current.{current, given_at}
 use Rattle.certificate_checker.specs.Latest.{IsLive}
@@ -23,9 +28,9 @@ use Rattle.certificate_checker.proofs.public_laws.LatestLemmas.{live_is}
 use Rattle.deeds.specs.Sound.{act_of}
 use Rattle.deeds.proofs.public_laws.Copying.{current_put, current_removed, current_kept, current_raised, read_keeps}
 use Rattle.service_lane.specs.Asked.{AreCurrent, TellsExpiry}
-use Rattle.service_lane.specs.Copies.{CopyList, CopyAsked, copied_pairs, copies_for, no_copies, copy_gone, copy_raised, copy_made, answer_counted, if_live, live_copy, copy_in, HitLeaves, MakesCopy, GetsCopied}
-use Rattle.service_lane.specs.declared.copied.Copied.{Copied}
-use Rattle.service_lane.specs.declared.copied.Copied.TheVariants.{Nothing, Answered, Made}
+use Rattle.service_lane.specs.Copies.{CopyList, CopyAsked, copied_pairs, copies_for, no_copies, copy_gone, copy_raised, copy_made, copy_pushed, answer_counted, if_live, live_copy, copy_in, HitLeaves, PutsBackIf, GetsCopied}
+use Rattle.service_lane.specs.declared.copied.Copied.TheVariants.{Nothing, Made}
+use Rattle.service_lane.specs.declared.new_copy.NewCopy.{NewCopy}
 
 -- the copies are what their keys have
 abbrev pub AreRight : List Deed → Option CopyList → Type 0
@@ -50,6 +55,13 @@ made_right : (deeds : List Deed) (p : Pair) (old new : Option CopyList) → curr
 made_right deeds p None new its is right = subst (AreRight deeds) (sym is) (none_right deeds)
 made_right deeds p (Some c) new its is right = subst (AreRight deeds) (sym is) (current_put deeds deeds p c.held (after_put p c.held) its (λ k other. refl) refl right)
 
+-- the copy that goes for a copy of what its key has, is what its own key has
+pub pushed_right : (deeds : List Deed) (p q : Pair) (copies : Option CopyList) → current deeds p.key ≡ Some p.value → copy_pushed p copies ≡ Some q → AreRight deeds copies → current deeds q.key ≡ Some q.value
+pushed_right deeds p q None its goes right = absurd (none-some q goes)
+pushed_right deeds p q (Some c) its goes right =
+    ⊎_elim (λ first. subst (λ (x : Pair). current deeds x.key ≡ Some x.value) first its) (λ behind. right q (without_key p.key c.held.pairs q behind).0)
+    (split q p (without p.key c.held.pairs) (got (entered p c.held.pairs) c.held.capacity q goes))
+
 -- after a hit was counted
 counted_right : (deeds : List Deed) (answer : Answer) (copies : Option CopyList) → AreRight deeds copies → AreRight deeds (answer_counted answer copies)
 counted_right deeds (answers.Hit value Memory) copies right = right
@@ -66,18 +78,29 @@ told_current honest deeds key found Log expires told is = told is
 told_current honest deeds key found Set expires told is = told is
 
 -- after an answer of the store
-left_right : (honest : Type 0) (deeds : List Deed) (key : List ℕ) (kind : AnswerKind) (found : List ℕ) (copied : Copied) (old new : Option CopyList) → HitLeaves copied key kind found old new → TellsExpiry honest deeds key found kind → honest → AreRight deeds old → AreRight deeds new
-left_right honest deeds key kind found Nothing old new leaves told is right = subst (AreRight deeds) (sym leaves) (counted_right deeds (answer_of kind found) old right)
-left_right honest deeds key kind found Answered old new leaves told is right = absurd leaves
-left_right honest deeds key (kinds.Hit tier expires) found Made old new leaves told is right =
+left_right : (honest : Type 0) (deeds : List Deed) (key : List ℕ) (kind : AnswerKind) (found : List ℕ) (made : Option NewCopy) (old new : Option CopyList) → HitLeaves made key kind found old new → TellsExpiry honest deeds key found kind → honest → AreRight deeds old → AreRight deeds new
+left_right honest deeds key kind found None old new leaves told is right = subst (AreRight deeds) (sym leaves) (counted_right deeds (answer_of kind found) old right)
+left_right honest deeds key (kinds.Hit tier expires) found (Some made) old new leaves told is right =
     let answer : Answer = answer_of (kinds.Hit tier expires) found in
-    made_right deeds (record { key = key; value = timed found expires }) (answer_counted answer old) new (told_current honest deeds key found tier expires told is) leaves.copies (counted_right deeds answer old right)
-left_right honest deeds key (kinds.Miss cause) found Made old new leaves told is right = absurd leaves
+    made_right deeds (record { key = key; value = timed found expires }) (answer_counted answer old) new (told_current honest deeds key found tier expires told is) leaves.leaves.copies (counted_right deeds answer old right)
+left_right honest deeds key (kinds.Miss cause) found (Some made) old new leaves told is right = absurd leaves
 
 -- and once the answer is a deed
-pub got_right : (honest : Type 0) (deeds after : List Deed) (key : List ℕ) (moment : ℕ) (kind : AnswerKind) (found : List ℕ) (copied : Copied) (old new : Option CopyList) → after ≡ deeds ++ record { key = key; act = act_of moment (answer_of kind found) } ∷ [] → HitLeaves copied key kind found old new → TellsExpiry honest deeds key found kind → honest → AreRight deeds old → AreRight after new
-got_right honest deeds after key moment kind found copied old new more leaves told is right =
-    current_kept deeds after (copied_pairs new) (λ k. ap (λ ds. current ds k) more ∙ read_keeps deeds key moment (answer_of kind found) k) (left_right honest deeds key kind found copied old new leaves told is right)
+pub got_right : (honest : Type 0) (deeds after : List Deed) (key : List ℕ) (moment : ℕ) (kind : AnswerKind) (found : List ℕ) (made : Option NewCopy) (old new : Option CopyList) → after ≡ deeds ++ record { key = key; act = act_of moment (answer_of kind found) } ∷ [] → HitLeaves made key kind found old new → TellsExpiry honest deeds key found kind → honest → AreRight deeds old → AreRight after new
+got_right honest deeds after key moment kind found made old new more leaves told is right =
+    current_kept deeds after (copied_pairs new) (λ k. ap (λ ds. current ds k) more ∙ read_keeps deeds key moment (answer_of kind found) k) (left_right honest deeds key kind found made old new leaves told is right)
+
+-- and so is the copy that was pushed out
+pub gone_current : (honest : Type 0) (deeds after : List Deed) (key : List ℕ) (moment : ℕ) (kind : AnswerKind) (found : List ℕ) (made : NewCopy) (old new : Option CopyList) → after ≡ deeds ++ record { key = key; act = act_of moment (answer_of kind found) } ∷ [] → HitLeaves (Some made) key kind found old new → TellsExpiry honest deeds key found kind → (honest → AreRight deeds old) → IfSome made.pushed (λ q. honest → current after q.key ≡ Some q.value)
+gone_current honest deeds after key moment (kinds.Miss cause) found made old new more leaves told right = absurd leaves
+gone_current honest deeds after key moment (kinds.Hit tier expires) found made old new more leaves told right = by made.pushed leaves.pushed
+  where
+    by : (pushed : Option Pair) → pushed ≡ copy_pushed (record { key = key; value = timed found expires }) old → IfSome pushed (λ q. honest → current after q.key ≡ Some q.value)
+    by None is = tt
+    by (Some q) is =
+        λ its.
+        ap (λ ds. current ds q.key) more ∙ read_keeps deeds key moment (answer_of (kinds.Hit tier expires) found) q.key
+        ∙ pushed_right deeds (record { key = key; value = timed found expires }) q old (told_current honest deeds key found tier expires told its) (sym is) (right its)
 
 -- ---- what a live copy gives
 
@@ -113,13 +136,23 @@ module _ (found_held : FoundIsHeld) (deeds : List Deed) (key : List ℕ) (moment
 -- ---- a get of the store
 
 module _ {D : Type 0} (size : ℕ) (honest : D → Bool) (failures : D → ℕ) (held : D → ℕ → Option (List ℕ)) (key : List ℕ) (moment : ℕ) (found : List ℕ) (old new : CopyAsked D) where
-  pub got_copied : (kind : AnswerKind) (copied : Copied) → copy_in key moment old.copies ≡ None → StoreGets size honest failures held key moment old.store (Ok (answer_of kind found)) new.store → TellsExpiry (IsTrue (honest old.store.device)) old.deeds key found kind → HitLeaves copied key kind found old.copies new.copies → GetsCopied size honest failures held copied key moment (answer_of kind found) old new
-  got_copied kind Nothing none gets told leaves = (record { none = none; gets = gets }, leaves)
-  got_copied kind Answered none gets told leaves = absurd leaves
-  got_copied (kinds.Hit tier expires) Made none gets told leaves =
-      let makes : MakesCopy honest key (answer_of (kinds.Hit tier expires) found) old new = record { value = found; expires = expires; current = told_current (IsTrue (honest old.store.device)) old.deeds key found tier expires told; leaves = leaves } in
-      (record { none = none; gets = gets }, makes)
-  got_copied (kinds.Miss cause) Made none gets told leaves = absurd leaves
+  -- after which no copy was made
+  pub got_uncopied : (kind : AnswerKind) → copy_in key moment old.copies ≡ None → StoreGets size honest failures held key moment old.store (Ok (answer_of kind found)) new.store → HitLeaves None key kind found old.copies new.copies → GetsCopied size honest failures held Nothing key moment (answer_of kind found) old new
+  got_uncopied kind none gets leaves = (record { none = none; gets = gets }, leaves)
+
+  -- after which a copy was made, and the one that went for it went back
+  pub got_copied : (kind : AnswerKind) (between : StoreState D) (made : NewCopy) (fate : Option CopyFate) → copy_in key moment old.copies ≡ None → StoreGets size honest failures held key moment old.store (Ok (answer_of kind found)) between → TellsExpiry (IsTrue (honest old.store.device)) old.deeds key found kind → HitLeaves (Some made) key kind found old.copies new.copies → PutsBackIf size held made.pushed between fate new.store → GetsCopied size honest failures held (Made fate) key moment (answer_of kind found) old new
+  got_copied (kinds.Hit tier expires) between made fate none gets told leaves back =
+      record {
+        between = between;
+        answers = record { none = none; gets = gets };
+        value = found;
+        expires = expires;
+        current = told_current (IsTrue (honest old.store.device)) old.deeds key found tier expires told;
+        leaves = leaves.leaves;
+        pushes = subst (λ (pushed : Option Pair). PutsBackIf size held pushed between fate new.store) leaves.pushed back;
+      }
+  got_copied (kinds.Miss cause) between made fate none gets told leaves back = absurd leaves
 
 -- ---- copies that are kept
 

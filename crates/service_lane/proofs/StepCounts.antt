@@ -21,7 +21,7 @@ pub record CountsStep (old new : Counts) : Type 0 where
 -- a counter of what steps do, or none
 abbrev pub IsWork : Option Counter → Type 0
 IsWork None = Unit {0}
-IsWork (Some c) = (24 ≤ place_of c) × (place_of c ≤ 32)
+IsWork (Some c) = (25 ≤ place_of c) × (place_of c ≤ 33)
 
 pub work_of_flush : (answer : Flushed) → IsWork (counter_of_flush answer)
 work_of_flush flushed.Sealed = (omega arith, omega arith)
@@ -41,8 +41,8 @@ work_of_move moved.Written = (omega arith, omega arith)
 work_of_move moved.Forgotten = (omega arith, omega arith)
 
 -- a number that steps leave stands before theirs
-before : (c : Counter) → is_left_by_steps c ≡ true → place_of c < 24
-before c left = ltb-true (place_of c) 24 left
+before : (c : Counter) → is_left_by_steps c ≡ true → place_of c < 25
+before c left = ltb-true (place_of c) 25 left
 
 -- a step that was due is one more
 due_counted : (counts : Counts) → CountsStep counts (counts_step counts)

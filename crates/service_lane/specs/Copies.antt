@@ -8,17 +8,19 @@ use Rattle.record_pages.specs.declared.answer.Answer.TheVariants.{Hit, Miss}
 use Rattle.record_pages.specs.declared.tier.Tier.TheVariants.{Memory, Log, Set}
 use Rattle.record_pages.specs.declared.timed_value.TimedValue.{TimedValue}
 use Rattle.memory_cache.specs.declared.pair.Pair.{Pair}
-use Rattle.memory_cache.specs.MemoryList.{MemoryList, empty, value_in, after_put, after_get, after_remove}
-use Rattle.mover.specs.Calls.{StoreGets}
+use Rattle.memory_cache.specs.MemoryList.{MemoryList, empty, value_in, after_put, pushed_out, after_get, after_remove}
+use Rattle.mover.specs.Calls.{StoreGets, StorePutsBack}
 use Rattle.mover.specs.Get.{answer_of}
 use Rattle.mover.specs.declared.answer_kind.AnswerKind.{AnswerKind}
 use Rattle.mover.specs.declared.answer_kind.AnswerKind.TheVariants as kinds
+use Rattle.mover.specs.declared.copy_fate.CopyFate.{CopyFate}
 use Rattle.mover.specs.Store.{StoreState}
 use Rattle.certificate_checker.specs.Deeds.{Deed}
 use Rattle.certificate_checker.specs.Current.{current}
 use Rattle.service_lane.specs.Asked.{AreCurrent}
 use Rattle.service_lane.specs.declared.copied.Copied.{Copied}
 use Rattle.service_lane.specs.declared.copied.Copied.TheVariants.{Nothing, Answered, Made}
+use Rattle.service_lane.specs.declared.new_copy.NewCopy.{NewCopy}
 
 -- the copies, the most recent first; how many hits on flash there are to one whose object is copied, and how many are left until then
 pub record CopyList : Type 0 where
@@ -90,6 +92,10 @@ copy_gone key copies = option_map (with_held (after_remove key)) copies
 abbrev pub copy_made : Pair → Option CopyList → Option CopyList
 copy_made p copies = option_map (with_held (after_put p)) copies
 
+-- the copy that goes for a copy of a pair, if one goes
+abbrev pub copy_pushed : Pair → Option CopyList → Option Pair
+copy_pushed p copies = option_and_then (λ c. pushed_out p c.held) copies
+
 -- whether the object of the next hit on flash is to be copied
 abbrev pub is_copy_due : CopyList → Bool
 is_copy_due c = not (nat_lt 1 c.left)
@@ -135,22 +141,36 @@ pub record CopiesHit (key found : List ℕ) (expires : ℕ) (answer : Answer) (o
   pub hit : IsHitBelow found answer
   pub copies : new ≡ copy_made (record { key = key; value = timed found expires }) (answer_counted answer old)
 
--- what an answer of the store leaves of the copies
-abbrev pub HitLeaves : Copied → List ℕ → AnswerKind → List ℕ → Option CopyList → Option CopyList → Type 0
-HitLeaves Nothing key kind found old new = new ≡ answer_counted (answer_of kind found) old
-HitLeaves Answered key kind found old new = ⊥
-HitLeaves Made key (kinds.Hit tier expires) found old new = CopiesHit key found expires (answer_of (kinds.Hit tier expires) found) old new
-HitLeaves Made key (kinds.Miss cause) found old new = ⊥
+-- A copy was made of a hit, and this is the one that it pushed out.
+pub record CopyMade (made : NewCopy) (key found : List ℕ) (expires : ℕ) (answer : Answer) (old new : Option CopyList) : Type 0 where
+  pub leaves : CopiesHit key found expires answer old new
+  pub pushed : made.pushed ≡ copy_pushed (record { key = key; value = timed found expires }) old
 
--- A copy was made of what the store had, with the expiry that it has there.
-pub record MakesCopy {D : Type 0} (honest : D → Bool) (key : List ℕ) (answer : Answer) (old new : CopyAsked D) : Type 0 where
+-- what an answer of the store leaves of the copies
+abbrev pub HitLeaves : Option NewCopy → List ℕ → AnswerKind → List ℕ → Option CopyList → Option CopyList → Type 0
+HitLeaves None key kind found old new = new ≡ answer_counted (answer_of kind found) old
+HitLeaves (Some made) key (kinds.Hit tier expires) found old new = CopyMade made key found expires (answer_of (kinds.Hit tier expires) found) old new
+HitLeaves (Some made) key (kinds.Miss cause) found old new = ⊥
+
+-- The copy that was pushed out, if one was, went back into a store: what became of it, and the store after it.
+abbrev pub PutsBackIf : {D : Type 0} → ℕ → (D → ℕ → Option (List ℕ)) → Option Pair → StoreState D → Option CopyFate → StoreState D → Type 0
+PutsBackIf size held None old fate new = (fate ≡ None) × (new ≡ old)
+PutsBackIf size held (Some p) old None new = ⊥
+PutsBackIf size held (Some p) old (Some fate) new = StorePutsBack size held p old fate new
+
+-- No copy was live, so the store answered. A copy was made of what it had, with the expiry that it has there, and then the copy that went
+-- for it went back into the store.
+pub record MakesCopy {D : Type 0} (size : ℕ) (honest : D → Bool) (failures : D → ℕ) (held : D → ℕ → Option (List ℕ)) (fate : Option CopyFate) (key : List ℕ) (moment : ℕ) (answer : Answer) (old new : CopyAsked D) : Type 0 where
+  pub between : StoreState D
+  pub answers : StoreAnswers size honest failures held key moment answer old (record old { store = between })
   pub value : List ℕ
   pub expires : ℕ
   pub current : IsTrue (honest old.store.device) → current old.deeds key ≡ Some (timed value expires)
   pub leaves : CopiesHit key value expires answer old.copies new.copies
+  pub pushes : PutsBackIf size held (copy_pushed (record { key = key; value = timed value expires }) old.copies) between fate new.store
 
 -- a get, by what it did with the copies
 abbrev pub GetsCopied : {D : Type 0} → ℕ → (D → Bool) → (D → ℕ) → (D → ℕ → Option (List ℕ)) → Copied → List ℕ → ℕ → Answer → CopyAsked D → CopyAsked D → Type 0
 GetsCopied size honest failures held Answered key moment answer old new = CopyAnswers key moment answer old new
 GetsCopied size honest failures held Nothing key moment answer old new = StoreAnswers size honest failures held key moment answer old new × (new.copies ≡ answer_counted answer old.copies)
-GetsCopied size honest failures held Made key moment answer old new = StoreAnswers size honest failures held key moment answer old new × MakesCopy honest key answer old new
+GetsCopied size honest failures held (Made fate) key moment answer old new = MakesCopy size honest failures held fate key moment answer old new

@@ -32,17 +32,18 @@ place_of counter.LogFull = 20
 place_of counter.IndexFull = 21
 place_of counter.CopyHits = 22
 place_of counter.BroughtBack = 23
-place_of counter.Sealed = 24
-place_of counter.PagesWritten = 25
-place_of counter.PagesLost = 26
-place_of counter.SetsWritten = 27
-place_of counter.SetsForgotten = 28
-place_of counter.SegmentsFreed = 29
-place_of counter.Readmitted = 30
-place_of counter.Dropped = 31
-place_of counter.MovesOutOfMemory = 32
-place_of counter.UpkeepSteps = 33
-place_of counter.StepsInHelp = 34
+place_of counter.PushedCopies = 24
+place_of counter.Sealed = 25
+place_of counter.PagesWritten = 26
+place_of counter.PagesLost = 27
+place_of counter.SetsWritten = 28
+place_of counter.SetsForgotten = 29
+place_of counter.SegmentsFreed = 30
+place_of counter.Readmitted = 31
+place_of counter.Dropped = 32
+place_of counter.MovesOutOfMemory = 33
+place_of counter.UpkeepSteps = 34
+place_of counter.StepsInHelp = 35
 
 -- the number that stands at a place
 abbrev pub number_at : Counts → ℕ → ℕ

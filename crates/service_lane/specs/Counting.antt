@@ -1,5 +1,5 @@
 -- What each call adds to the counts of a lane.
-use Rattle.std.specs.Prelude.{◌≡◌, ℕ, zero, suc, ◌+◌, ◌%◌, ◌^◌, List, length, Option, Some, None, true}
+use Rattle.std.specs.Prelude.{◌≡◌, ℕ, zero, suc, ◌+◌, ◌%◌, ◌^◌, List, length, Option, Some, None, option_and_then, true}
 use Rattle.record_pages.specs.declared.answer.Answer.{Answer}
 use Rattle.record_pages.specs.declared.answer.Answer.TheVariants.{Hit, Miss}
 use Rattle.record_pages.specs.declared.tier.Tier.{Tier}
@@ -12,6 +12,8 @@ use Rattle.record_pages.specs.declared.put_fault.PutFault.{PutFault}
 use Rattle.record_pages.specs.declared.put_fault.PutFault.TheVariants.{TooLarge, OutOfMemory}
 use Rattle.klog.specs.declared.flushed.Flushed.{Flushed}
 use Rattle.klog.specs.declared.flushed.Flushed.TheVariants as flushed
+use Rattle.mover.specs.declared.copy_fate.CopyFate.{CopyFate}
+use Rattle.mover.specs.declared.copy_fate.CopyFate.TheVariants as fates
 use Rattle.mover.specs.declared.moved_whole.MovedWhole.{MovedWhole}
 use Rattle.mover.specs.declared.moved_whole.MovedWhole.TheVariants as moved
 use Rattle.service_lane.specs.declared.copied.Copied.{Copied}
@@ -61,7 +63,21 @@ counter_of_pushed IndexFull = Some counter.IndexFull
 abbrev pub counter_of_copied : Copied → Option Counter
 counter_of_copied Nothing = None
 counter_of_copied Answered = Some counter.CopyHits
-counter_of_copied Made = Some counter.BroughtBack
+counter_of_copied (Made fate) = Some counter.BroughtBack
+
+-- what became of the copy that a get pushed out, if it pushed one out
+abbrev pub fate_after : Copied → Option CopyFate
+fate_after Nothing = None
+fate_after Answered = None
+fate_after (Made fate) = fate
+
+-- the counter of what became of a copy that was pushed out of memory; none for one that has no room in the log, which was never there
+abbrev pub counter_of_fate : CopyFate → Option Counter
+counter_of_fate fates.Known = Some counter.PushedCopies
+counter_of_fate fates.TooLarge = None
+counter_of_fate fates.Logged = Some counter.Logged
+counter_of_fate fates.Full = Some counter.LogFull
+counter_of_fate fates.IndexFull = Some counter.IndexFull
 
 -- the counter of a step of flushing, if it did something
 abbrev pub counter_of_flush : Flushed → Option Counter
@@ -90,9 +106,9 @@ bytes_of key value = length key + length value
 abbrev pub counts_answer : Answer → Counts → Counts
 counts_answer answer c = with_one (counter_of_answer answer) c
 
--- with one more answer, and what it did with the copies
+-- with one more answer, what it did with the copies, and what became of the copy that it pushed out
 abbrev pub counts_get : Copied → Answer → Counts → Counts
-counts_get copied answer c = with_one_if (counter_of_copied copied) (counts_answer answer c)
+counts_get copied answer c = with_one_if (option_and_then counter_of_fate (fate_after copied)) (with_one_if (counter_of_copied copied) (counts_answer answer c))
 
 -- with one more put that was stored, its bytes, and what became of the pair that it pushed out
 abbrev pub counts_put : List ℕ → List ℕ → Pushed → Counts → Counts

@@ -1,4 +1,5 @@
 // What a get did with copies.
+use mover::CopyFate;
 
 /// What a get did with the copies that a lane has in memory of objects on flash.
 #[derive(Clone, Copy, Debug, PartialEq, Eq)]
@@ -7,6 +8,6 @@ pub enum Copied {
     Nothing,
     /// A copy answered it.
     Answered,
-    /// A copy was made of what was found.
-    Made,
+    /// A copy was made of what was found; and what became of the copy that was pushed out for it, if one was.
+    Made(Option<CopyFate>),
 }

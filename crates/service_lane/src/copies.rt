@@ -1,11 +1,11 @@
 // Copies in memory of objects on flash.
-ghost use Rattle.std.specs.Prelude.{◌≡◌, ◌≤◌, None, IfOk, IsSome, option_map, true, false};
+ghost use Rattle.std.specs.Prelude.{◌≡◌, ◌≤◌, None, IfOk, OnOk, OnErr, IsSome, option_map};
 ghost use Rattle.record_pages.specs.Expiry.{timed};
-ghost use Rattle.memory_cache.specs.MemoryList.{after_get, after_put, after_remove};
+ghost use Rattle.memory_cache.specs.MemoryList.{after_get, after_put, after_remove, pushed_out};
 ghost use Rattle.service_lane.specs.Copies.{no_copies, with_held, live_copy, is_copy_due, hit_counted};
 
 use key_hash::RandomSeed;
-use memory_cache::MemoryCache;
+use memory_cache::{MemoryCache, Pair};
 use record_pages::{Key, TimedValue, Value, ValueBuffer};
 use std::alloc::{AllocError, Global};
 use std::marker::Model;
@@ -91,19 +91,29 @@ impl Copies {
         true
     }
 
-    /// Copies an object. Whether it did: not if memory was refused, and then nothing changes.
-    pub(crate) fn make(&mut self, key: &[u8], value: &[u8], expires: u64) -> bool
-        ensures made { result ≡ true → self.new ≡ with_held
-            (after_put (record { key = key.now; value = timed value.now expires })) self.old }
-        ensures refused { result ≡ false → self.new ≡ self.old }
+    /// Copies an object. The copy that had to leave for it, if there is no room for both; or `AllocError`, and then nothing changes.
+    pub(crate) fn make(
+        &mut self,
+        key: &[u8],
+        value: &[u8],
+        expires: u64,
+    ) -> Result<Option<Pair>, AllocError>
+        ensures out { IfOk result (λ out. out ≡ pushed_out
+            (record { key = key.now; value = timed value.now expires }) self.old.held) }
+        ensures made { OnOk result (self.new ≡ with_held
+            (after_put (record { key = key.now; value = timed value.now expires })) self.old) }
+        ensures refused { OnErr result (self.new ≡ self.old) }
     {
         let Ok(key) = Key::new(self.alloc, key) else {
-            return false;
+            return Err(AllocError);
         };
         let Ok(value) = Value::new(self.alloc, value) else {
-            return false;
+            return Err(AllocError);
         };
-        self.held.put(key, TimedValue { value, expires }).is_ok()
+        match self.held.put(key, TimedValue { value, expires }) {
+            Ok(out) => Ok(out),
+            Err(_) => Err(AllocError),
+        }
     }
 
     /// Takes the copy of a key away, if there is one.

@@ -14,17 +14,18 @@ ghost use Rattle.certificate_checker.specs.Current.{current};
 ghost use Rattle.certificate_checker.specs.Latest.{IsLive};
 ghost use Rattle.deeds.specs.Sound.{act_of};
 ghost use Rattle.service_lane.specs.Asked.{IsLiveHit, IsMiss, TellsExpiry};
-ghost use Rattle.service_lane.specs.Copies.{GetsCopied, CopyAnswers, HitLeaves, copies_for, copy_gone, copy_in};
+ghost use Rattle.service_lane.specs.Copies.{GetsCopied, CopyAnswers, HitLeaves, PutsBackIf, copies_for, copy_gone, copy_in};
 
 use crate::copied::Copied;
 use crate::copies::Copies;
 use crate::key_buffer::KeyBuffer;
+use crate::new_copy::NewCopy;
 use crate::seen::Seen;
 use deeds::DeedStore;
 use key_hash::RandomSeed;
 use klog::{Flushed, LogUsage};
 use memory_cache::found_is_held;
-use mover::{AnswerKind, MovedWhole};
+use mover::{AnswerKind, CopyFate, MovedWhole};
 use page_device::PageDevice;
 use policy_laws::EvictionPolicy;
 use record_pages::{Key, Layout, Pushed, PutFault, Tier, Value, ValueBuffer};
@@ -107,7 +108,8 @@ impl<D: PageDevice<PAGE>, const PAGE: usize> CopyStore<D, PAGE> {
     }
 
     /// Looks the key of these bytes up: in the copies, and if none is live in the store. The value of a hit is in the buffer then,
-    /// and it is told when it expires. What a copy answers is told as of a set. The answer is a deed.
+    /// and it is told when it expires. What a copy answers is told as of a set. The answer is a deed. A copy that is pushed out
+    /// for what was found is put back if no tier admits it any more.
     pub(crate) fn get_into(&mut self, key: &[u8], moment: u64, found: &mut ValueBuffer) -> Seen
         ensures gets { GetsCopied PAGE D.honest D.failures D.held result.copied key.now moment
             (answer_of result.kind found.new) self.old self.new }
@@ -129,8 +131,17 @@ impl<D: PageDevice<PAGE>, const PAGE: usize> CopyStore<D, PAGE> {
             };
         }
         let kind = self.asked.get_into(key, moment, found);
-        let copied = copy_hit(&mut self.copies, key, kind, found);
-        Seen { kind, copied }
+        let Some(made) = copy_hit(&mut self.copies, key, kind, found) else {
+            return Seen {
+                kind,
+                copied: Copied::Nothing,
+            };
+        };
+        let fate = put_back(&mut self.asked, &made);
+        Seen {
+            kind,
+            copied: Copied::Made(fate),
+        }
     }
 
     // The live copy of a key answers: its value goes into the buffer, and the answer is a deed. When it expires; none if no copy is
@@ -260,22 +271,41 @@ fn copy_hit(
     key: &[u8],
     kind: AnswerKind,
     found: &ValueBuffer,
-) -> Copied
+) -> Option<NewCopy>
     ensures { HitLeaves result key.now kind found.now copies.old copies.new }
 {
     let AnswerKind::Hit { tier, expires } = kind else {
-        return Copied::Nothing;
+        return None;
     };
     if tier == Tier::Memory {
-        return Copied::Nothing;
+        return None;
     }
     let Some(copies) = copies else {
-        return Copied::Nothing;
+        return None;
     };
-    if copies.count_hit() && copies.make(key, found.bytes(), expires) {
-        return Copied::Made;
+    if !copies.count_hit() {
+        return None;
     }
-    Copied::Nothing
+    let Ok(pushed) = copies.make(key, found.bytes(), expires) else {
+        return None;
+    };
+    Some(NewCopy { pushed })
+}
+
+// Puts the copy that was pushed out back, if one was: into the log, if no tier admits it any more. What became of it.
+fn put_back<D: PageDevice<PAGE>, const PAGE: usize>(
+    asked: &mut DeedStore<D, PAGE>,
+    made: &NewCopy,
+) -> Option<CopyFate>
+    requires { IfSome made.now.pushed (λ p. IsTrue (D.honest asked.old.store.device)
+        → current asked.old.deeds p.key ≡ Some p.value) }
+    ensures puts_back { PutsBackIf PAGE D.held made.now.pushed asked.old.store result asked.new.store }
+    ensures deeds { asked.new.deeds ≡ asked.old.deeds }
+{
+    let Some(pair) = &made.pushed else {
+        return None;
+    };
+    Some(asked.put_back(pair))
 }
 
 // Takes the copy of a key away.

@@ -1,10 +1,10 @@
 // The numbers that a lane counts, and which of them a call adds to.
-ghost use Rattle.std.specs.Prelude.{◌≡◌, ◌<◌, ℕ, List};
+ghost use Rattle.std.specs.Prelude.{◌≡◌, ◌<◌, ℕ, List, option_and_then};
 ghost use Rattle.mover.specs.Get.{answer_of};
 
 use crate::copied::Copied;
 use klog::Flushed;
-use mover::{AnswerKind, MovedWhole};
+use mover::{AnswerKind, CopyFate, MovedWhole};
 use record_pages::{MissCause, Pushed, PutFault, Tier};
 
 /// A number that a lane counts.
@@ -48,16 +48,18 @@ pub enum Counter {
     Removals,
     /// Pairs that were pushed out of memory, and that admission declined. They are lost.
     Declined,
-    /// Pairs that were pushed out of memory and entered the log.
+    /// Pairs and copies that were pushed out of memory and entered the log.
     Logged,
-    /// Pairs that were pushed out of memory, and for which the log had no place. They are lost.
+    /// Pairs and copies that were pushed out of memory, and for which the log had no place. They are lost.
     LogFull,
-    /// Pairs that were pushed out of memory, and for which the log's index had no place. They are lost.
+    /// Pairs and copies that were pushed out of memory, and for which the log's index had no place. They are lost.
     IndexFull,
     /// Hits that a copy in memory answered. They are among the hits in sets.
     CopyHits,
     /// Objects on flash that were brought back into memory, as copies.
     BroughtBack,
+    /// Copies that were pushed out of memory and dropped, since flash may have their object.
+    PushedCopies,
     /// Segments that were sealed. Steps of flushing, moves and upkeep change this number or those after it, and no other.
     Sealed,
     /// Pages of the log that were written.
@@ -84,7 +86,7 @@ pub enum Counter {
 
 impl Counter {
     ghost use Rattle.service_lane.specs.Counters.{place_of};
-    ghost use Rattle.service_lane.specs.Counting.{counter_of_answer, counter_of_hit, counter_of_miss, counter_of_refused_put, counter_of_refused_fill, counter_of_pushed, counter_of_copied, counter_of_flush, counter_of_move};
+    ghost use Rattle.service_lane.specs.Counting.{counter_of_answer, counter_of_hit, counter_of_miss, counter_of_refused_put, counter_of_refused_fill, counter_of_pushed, counter_of_copied, counter_of_fate, fate_after, counter_of_flush, counter_of_move};
     ghost use Rattle.service_lane.specs.declared.counts.TheConstants.{COUNTERS};
 
     /// Where its number stands.
@@ -168,7 +170,30 @@ impl Counter {
         match copied {
             Copied::Nothing => None,
             Copied::Answered => Some(Counter::CopyHits),
-            Copied::Made => Some(Counter::BroughtBack),
+            Copied::Made(_) => Some(Counter::BroughtBack),
+        }
+    }
+
+    /// That of what became of the copy that a get pushed out, if it pushed one out and that is counted.
+    pub(crate) fn of_fate_after(copied: Copied) -> Option<Counter>
+        ensures { result ≡ option_and_then counter_of_fate (fate_after copied) }
+    {
+        match copied {
+            Copied::Made(Some(fate)) => Counter::of_fate(fate),
+            _ => None,
+        }
+    }
+
+    /// That of copies of which this became, if that is counted.
+    fn of_fate(fate: CopyFate) -> Option<Counter>
+        ensures { result ≡ counter_of_fate fate }
+    {
+        match fate {
+            CopyFate::Known => Some(Counter::PushedCopies),
+            CopyFate::TooLarge => None,
+            CopyFate::Logged => Some(Counter::Logged),
+            CopyFate::Full => Some(Counter::LogFull),
+            CopyFate::IndexFull => Some(Counter::IndexFull),
         }
     }
 

@@ -4,7 +4,7 @@ ghost use Rattle.std.specs.Prelude.{◌≡◌};
 use crate::counter::Counter;
 
 /// How many counters there are.
-pub const COUNTERS: usize = 35;
+pub const COUNTERS: usize = 36;
 
 /// How often a lane did what since it was opened, or lanes together: a number for each `Counter`, modulo 2^64.
 #[derive(Clone, Copy, Debug, PartialEq, Eq)]

@@ -104,7 +104,8 @@ impl<D: PageDevice<PAGE>, const PAGE: usize> ServiceLane<D, PAGE> {
     /// the device is dropped. Nothing is tested again.
     ///
     /// If `bring_back` is 0 it is as `open` makes it. If not, objects come back into memory: of so many hits on flash one has its
-    /// object copied. Of each four objects that the layout has in memory three are then copies, and one that is pushed out is dropped.
+    /// object copied. Of each four objects that the layout has in memory three are then copies. One that is pushed out enters
+    /// the log, without admission, if flash has it no more; else it is dropped.
     pub fn with_layout(
         alloc: Global,
         layout: &Layout,

@@ -14,6 +14,7 @@ mod helped;
 mod key_buffer;
 mod lane;
 mod lease;
+mod new_copy;
 mod open_lane_fault;
 mod seen;
 mod slots;

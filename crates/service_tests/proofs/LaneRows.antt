@@ -1,6 +1,6 @@
 -- What a hit can be after a put or a removal of its key, and that no lease outlives either.
 use Rattle.std.proofs.Common.{◌≡◌, ◌≤◌, ◌<◌, ◌+◌, ◌/◌, ◌^◌, ◌∙◌, ℕ, Bool, true, false, List, [], ◌∷◌, ◌++◌, length, Option, Some, None, Result, Ok, sym, ap, refl, subst, cond, arith, get_or, set, ltb}
-use Rattle.std.specs.Prelude.{IsTrue}
+use Rattle.std.specs.Prelude.{IsTrue, option_and_then}
 use Rattle.std.specs.Str.{bytes_eq}
 use Rattle.std.specs.Cmp.Lexicographic.{bytes_decides}
 use Rattle.std.proofs.lemmas.Bool.{ltb-false, false≢true}
@@ -22,13 +22,15 @@ use Rattle.deeds.proofs.public_laws.Sounding.{put_gives, none_some}
 use Rattle.mover.specs.Get.{answer_of}
 use Rattle.mover.specs.declared.answer_kind.AnswerKind.{AnswerKind}
 use Rattle.mover.specs.declared.answer_kind.AnswerKind.TheVariants.{Hit}
+use Rattle.mover.specs.declared.copy_fate.CopyFate.{CopyFate}
+use Rattle.mover.specs.declared.copy_fate.CopyFate.TheVariants as fates
 use Rattle.mover.proofs.public_laws.Showing.{some_same}
 use Rattle.service_lane.specs.Asked.{IsLiveHit}
 use Rattle.service_lane.specs.Leases.{LeaseSlots, hash_by, slot_of, slot_for, writes_for, with_write, one_more, most_writes, HoldsLease}
 use Rattle.service_lane.specs.Serving.{Serving}
 use Rattle.klog.specs.declared.flushed.Flushed.{Flushed}
 use Rattle.service_lane.specs.Counters.{number, place_of, with_one_if}
-use Rattle.service_lane.specs.Counting.{counts_answer, counts_get, counter_of_copied}
+use Rattle.service_lane.specs.Counting.{counts_answer, counts_get, counter_of_copied, counter_of_fate, fate_after}
 use Rattle.service_lane.specs.declared.copied.Copied.{Copied}
 use Rattle.service_lane.specs.declared.copied.Copied.TheVariants.{Nothing, Answered, Made}
 use Rattle.service_lane.specs.declared.counter.Counter.{Counter}
@@ -111,12 +113,22 @@ lease_ended slots after key writes some leased written holds =
 copied_apart : (copied : Copied) (c : Counter) (counts : Counts) → place_of c < 3 → number c (with_one_if (counter_of_copied copied) counts) ≡ number c counts
 copied_apart Nothing c counts few = refl
 copied_apart Answered c counts few = more_other 1 counter.CopyHits c counts (λ same. omega (arith, few, same))
-copied_apart Made c counts few = more_other 1 counter.BroughtBack c counts (λ same. omega (arith, few, same))
+copied_apart (Made fate) c counts few = more_other 1 counter.BroughtBack c counts (λ same. omega (arith, few, same))
+
+-- and so is what became of the copy that it pushed out
+fate_apart : (fate : Option CopyFate) (c : Counter) (counts : Counts) → place_of c < 3 → number c (with_one_if (option_and_then counter_of_fate fate) counts) ≡ number c counts
+fate_apart None c counts few = refl
+fate_apart (Some fates.Known) c counts few = more_other 1 counter.PushedCopies c counts (λ same. omega (arith, few, same))
+fate_apart (Some fates.TooLarge) c counts few = refl
+fate_apart (Some fates.Logged) c counts few = more_other 1 counter.Logged c counts (λ same. omega (arith, few, same))
+fate_apart (Some fates.Full) c counts few = more_other 1 counter.LogFull c counts (λ same. omega (arith, few, same))
+fate_apart (Some fates.IndexFull) c counts few = more_other 1 counter.IndexFull c counts (λ same. omega (arith, few, same))
 
 -- the number of a tier's hits after a hit
 pub counted_hit : {D : Type 0} (old new : Serving D) (found : List ℕ) (seen : AnswerKind) (tier : Tier) (told : ℕ) (copied : Copied) (c : Counter) → place_of c < 3 → seen ≡ Hit tier told → new.counts ≡ counts_get copied (answer_of seen found) old.counts → number c new.counts ≡ number c (counts_answer (answer_of (Hit tier told) found) old.counts)
 counted_hit old new found seen tier told copied c few is counts =
-    ap (number c) (subst (λ s. new.counts ≡ counts_get copied (answer_of s found) old.counts) is counts) ∙ copied_apart copied c (counts_answer (answer_of (Hit tier told) found) old.counts) few
+    ap (number c) (subst (λ s. new.counts ≡ counts_get copied (answer_of s found) old.counts) is counts)
+    ∙ fate_apart (fate_after copied) c (with_one_if (counter_of_copied copied) (counts_answer (answer_of (Hit tier told) found) old.counts)) few ∙ copied_apart copied c (counts_answer (answer_of (Hit tier told) found) old.counts) few
 
 -- a step that flushes has done a page
 pub page_done : {D : Type 0} (size : ℕ) (honest : D → Bool) (failures : D → ℕ) (held : D → ℕ → Option (List ℕ)) (plan_of : Job → List Choice) (old : Serving D) (did : Upkept) (new : Serving D) (answer : Flushed) → did ≡ upkept.Flushed answer → Upkeeps size honest failures held plan_of old did new → IsPageDone answer

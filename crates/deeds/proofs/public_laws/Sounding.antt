@@ -58,7 +58,7 @@ reads moment (answers.Miss cause) w = w
 pub none_some : {X : Type 0} {x : X} → None ≡ Some x → ⊥
 none_some is = cc
 
-some_same : {X : Type 0} {x y : X} → Some x ≡ Some y → x ≡ y
+pub some_same : {X : Type 0} {x y : X} → Some x ≡ Some y → x ≡ y
 some_same is = cc
 
 -- after an answer

@@ -1,11 +1,13 @@
 // Puts and removals.
-ghost use Rattle.std.specs.Prelude.{◌≡◌, ◌++◌, ◌∷◌, [], OnOk, OnErr};
+ghost use Rattle.std.specs.Prelude.{◌≡◌, ◌++◌, ◌∷◌, [], OnOk, OnErr, IsTrue, Some};
 ghost use Rattle.record_pages.specs.Expiry.{timed};
-ghost use Rattle.mover.specs.Calls.{StorePuts, StoreRemoves};
+ghost use Rattle.mover.specs.Calls.{StorePuts, StorePutsBack, StoreRemoves};
+ghost use Rattle.certificate_checker.specs.Current.{current};
 ghost use Rattle.trace_file.specs.declared.act.Act.{Act};
 
 use super::DeedStore;
-use mover::{put_shows, removal_shows};
+use memory_cache::Pair;
+use mover::{CopyFate, put_back_shows, put_shows, removal_shows};
 use page_device::PageDevice;
 use record_pages::{Key, Pushed, PutFault, Value};
 use trace_file::ActRef;
@@ -31,6 +33,18 @@ impl<D: PageDevice<PAGE>, const PAGE: usize> DeedStore<D, PAGE> {
         let pushed = self.store.put(key, value, word, expires)?;
         self.trail = trail;
         Ok(pushed)
+    }
+
+    /// Puts a copy back that was kept elsewhere, as `Store::put_back` does. On an honest device it has to be what its key has
+    /// now, expired or not. That is no deed.
+    pub fn put_back(&mut self, pair: &Pair) -> CopyFate
+        requires current { IsTrue (D.honest self.old.store.device)
+            → current self.old.deeds pair.now.key ≡ Some pair.now.value }
+        ensures puts_back { StorePutsBack PAGE D.held pair.now self.old.store result self.new.store }
+        ensures deeds { self.new.deeds ≡ self.old.deeds }
+    {
+        put_back_shows();
+        self.store.put_back(pair)
     }
 
     /// Removes the key of these bytes, as `Store::remove_bytes` does. That is a deed.

@@ -255,7 +255,7 @@ appended_shows size lane r p (inr (inr visible)) =
     inr (inr (inr (subst (λ (h : Shape). Contains (map (λ (x : ℕ × Rec). pair_of x.1) (lane.visible (place_in h p.key).set)) p) (shape_appended size lane.log r) visible)))
 
 -- whatever becomes of a record that is to enter the log, nothing else is shown
-append_shows : (size : ℕ) (lane : LaneState) (r : Rec) (p : Pair) → IsVisible (append_step size r lane).lane p → (p ≡ pair_of r) ⊎ IsVisible lane p
+pub append_shows : (size : ℕ) (lane : LaneState) (r : Rec) (p : Pair) → IsVisible (append_step size r lane).lane p → (p ≡ pair_of r) ⊎ IsVisible lane p
 append_shows size lane r p = step (nat_lt (length lane.log.entries) lane.log.shape.limit) (is_full size lane.log r)
   where
     step : (a b : Bool) →

@@ -3,11 +3,13 @@ use Rattle.std.proofs.Common.{ℕ, List, Option, Some, None, sym, subst}
 use Rattle.memory_cache.specs.declared.pair.Pair.{Pair}
 use Rattle.mover.specs.Lane.{LaneState}
 use Rattle.mover.specs.Put.{put_step}
+use Rattle.mover.specs.PutBack.{put_back_step}
 use Rattle.mover.specs.Strike.{removed}
 use Rattle.mover.specs.Visible.{ShowsFrom}
-use Rattle.mover.specs.Laws.{StepsInOrder, GetShows, PutShows, RemovalShows, FlushShows, BeginShows, CommitShows, AbortShows}
+use Rattle.mover.specs.Laws.{StepsInOrder, GetShows, PutShows, PutBackShows, RemovalShows, FlushShows, BeginShows, CommitShows, AbortShows}
 use Rattle.mover.proofs.public_laws.Showing.{no_more, others, it_alone, get_shows, get_tells, flush_shows}
 use Rattle.mover.proofs.Marking.{removal_others, put_alone}
+use Rattle.mover.proofs.public_laws.PutBackLaws.{put_back_alone, put_back_kept}
 use Rattle.mover.proofs.OrderKept.{KeepsOrder, get_kept, removed_kept, put_kept, flushed_kept}
 use Rattle.mover.proofs.MovingShows.{begun_shows, commit_shows, abort_shows}
 use Rattle.mover.proofs.MoveKept.{begun_kept, commit_kept, abort_kept}
@@ -24,6 +26,10 @@ pub put_law : PutShows
 put_law size admit word p old new pushed was gives =
     subst (StepsInOrder (Some p.key) (Some p) old) (sym gives.1)
     (both (Some p.key) (Some p) old (put_step size admit p word old).lane (it_alone p old (put_step size admit p word old).lane (put_alone size admit word p old was.placed.log was.marked)) (put_kept size admit word p old was))
+
+pub put_back_law : PutBackShows
+put_back_law size p old new returned was gives =
+    subst (StepsInOrder None (Some p) old) (sym gives.1) (both None (Some p) old (put_back_step size p old).lane (put_back_alone size p old) (put_back_kept size p old was))
 
 pub removal_law : RemovalShows
 removal_law key old new was is =

@@ -24,10 +24,17 @@ ghost use Rattle.set_hash.specs.Fnv.{fnv1a};
 ghost use Rattle.std.specs.Option.{option_map};
 ghost use Rattle.mover.specs.declared.aborted.Aborted.{Aborted};
 ghost use Rattle.klog.specs.declared.flushed.Flushed.{Flushed};
+ghost use Rattle.klog.specs.Append.{entering, is_full};
+ghost use Rattle.mover.specs.PutBack.{may_show};
+ghost use Rattle.mover.specs.declared.copy_fate.CopyFate.{CopyFate};
+ghost use Rattle.std.specs.Prelude.{◌↔◌, ◌<◌, ◌≤◌, true, false, length, slice_get};
+ghost use Rattle.record_pages.specs.Sizes.{object_size, room};
 
 use klog::Flushed;
+use memory_cache::Pair;
 use mover::{
-    Aborted, AnswerKind, Begin, Committed, Store, commit_shows, get_shows, put_shows, removal_shows,
+    Aborted, AnswerKind, Begin, Committed, CopyFate, Store, commit_shows, get_shows, put_shows,
+    removal_shows,
 };
 use page_device::PageDevice;
 use policy_laws::Plan;
@@ -287,4 +294,39 @@ pub fn a_put_leaves_no_older_value<D: PageDevice<PAGE>, const PAGE: usize>(
     put_shows();
     let _layout = store.layout();
     store.put(key, value, word, expires)
+}
+
+/// A copy that is put back is dropped exactly if flash may show its key, and then the lane stays as it was; so it does if the
+/// copy is lost. The device is not asked.
+pub fn a_copy_is_dropped_where_flash_may_show_it<D: PageDevice<PAGE>, const PAGE: usize>(
+    store: &mut Store<D, PAGE>,
+    pair: &Pair,
+) -> CopyFate
+    ensures known { (result ≡ CopyFate.Known) ↔ (may_show pair.now.key (lane_of D.held store.old) ≡ true) }
+    ensures stays { result ≢ CopyFate.Logged → lane_of D.held store.new ≡ lane_of D.held store.old }
+    ensures unasked { store.new.device ≡ store.old.device }
+{
+    store.put_back(pair)
+}
+
+/// A copy that flash does not show, and that fits on a page, is the newest record of the log if that has an entry and a place
+/// left: with its key, its value and when that expires. Nothing enters a full log.
+pub fn a_copy_enters_the_log<D: PageDevice<PAGE>, const PAGE: usize>(
+    store: &mut Store<D, PAGE>,
+    pair: &Pair,
+) -> CopyFate
+    ensures enters { may_show pair.now.key (lane_of D.held store.old) ≡ false →
+        object_size pair.now.key pair.now.value.value ≤ room PAGE →
+        length store.old.log.entries < store.old.log.shape.limit →
+        is_full PAGE store.old.log (entering pair.now.key pair.now.value) ≡ false →
+        result ≡ CopyFate.Logged }
+    ensures newest { result ≡ CopyFate.Logged →
+        option_map (λ x. x.1) (slice_get (lane_of D.held store.new).live 0)
+        ≡ Some (entering pair.now.key pair.now.value) }
+    ensures place { result ≡ CopyFate.Logged →
+        is_full PAGE store.old.log (entering pair.now.key pair.now.value) ≡ false }
+    ensures entry { result ≡ CopyFate.Logged →
+        length store.old.log.entries < store.old.log.shape.limit }
+{
+    store.put_back(pair)
 }

@@ -1,8 +1,11 @@
 //! Calls of a store, each with what it gives.
 use super::*;
-use mover::{Aborted, AnswerKind, Begin, Committed};
+use memory_cache::Pair;
+use mover::{Aborted, AnswerKind, Begin, Committed, CopyFate};
 use policy_laws::{Choice, Item, Job, Plan};
-use record_pages::{Answer, Key, MissCause, Prediction, PutFault, Tier, Value, ValueBuffer};
+use record_pages::{
+    Answer, Key, MissCause, Prediction, PutFault, Tier, TimedValue, Value, ValueBuffer,
+};
 
 /// When each value that is put expires.
 pub const EXPIRES: u64 = 10;
@@ -50,6 +53,9 @@ pub enum Began {
 pub enum Step {
     /// A key, its value, the word, and what becomes of the pair that leaves memory.
     Put(&'static [u8], &'static [u8], u32, Pushed),
+    /// A key and the value that it has, and what becomes of a copy that is put back. The log has one live record more exactly if
+    /// the copy entered it.
+    PutBack(&'static [u8], &'static [u8], CopyFate),
     /// A key and a value that are too large together.
     TooLarge(&'static [u8], &'static [u8]),
     /// A key, and what is found of it, a moment before it expires.
@@ -99,6 +105,7 @@ fn gives<D: PageDevice<PAGE>, const PAGE: usize>(
             Ok(is_put(put(alloc, store, name, bytes, *word)?, *wanted))
         }
         Step::TooLarge(name, bytes) => Ok(is_too_large(put(alloc, store, name, bytes, 0)?)),
+        Step::PutBack(name, bytes, wanted) => Ok(puts_back(alloc, store, name, bytes, *wanted)?),
         Step::Get(name, wanted) => Ok(is_found(get(alloc, store, name, EXPIRES - 1)?, wanted)),
         Step::GetLate(name, wanted) => Ok(is_found(get(alloc, store, name, EXPIRES)?, wanted)),
         Step::GetInto(name, wanted) => Ok(gets_into(store, name, EXPIRES - 1, wanted)),
@@ -155,6 +162,27 @@ fn put<D: PageDevice<PAGE>, const PAGE: usize>(
         Ok(pushed) => Ok(Ok(pushed)),
         Err(fault) => Ok(Err(fault)),
     }
+}
+
+// Whether this becomes of a copy, and the log has one live record more exactly if it entered.
+fn puts_back<D: PageDevice<PAGE>, const PAGE: usize>(
+    alloc: Global,
+    store: &mut Store<D, PAGE>,
+    name: &[u8],
+    bytes: &[u8],
+    wanted: CopyFate,
+) -> Result<bool, Fail> {
+    let pair = Pair {
+        key: key(alloc, name)?,
+        value: TimedValue {
+            value: value(alloc, bytes)?,
+            expires: EXPIRES,
+        },
+    };
+    let before = store.log_usage().live;
+    let fate = store.put_back(&pair);
+    let joined = store.log_usage().live.wrapping_sub(before);
+    Ok(fate == wanted && joined == u32::from(wanted == CopyFate::Logged))
 }
 
 fn get<D: PageDevice<PAGE>, const PAGE: usize>(

@@ -7,7 +7,7 @@ use service_lane::{Counter, Counts};
 use std::test::Fail;
 
 /// The numbers of a report in which each row has another one.
-const NUMBERS: [(Counter, u64); 35] = [
+const NUMBERS: [(Counter, u64); 36] = [
     (Counter::MemoryHits, 1),
     (Counter::LogHits, 2),
     (Counter::SetHits, 3),
@@ -31,6 +31,7 @@ const NUMBERS: [(Counter, u64); 35] = [
     (Counter::IndexFull, 19),
     (Counter::CopyHits, 35),
     (Counter::BroughtBack, 36),
+    (Counter::PushedCopies, 37),
     (Counter::Sealed, 20),
     (Counter::PagesWritten, 21),
     (Counter::PagesLost, 22),
@@ -116,6 +117,7 @@ pushed-log-full 18
 pushed-index-full 19
 copy-hits 35
 brought-back 36
+pushed-copies 37
 pages-written 21
 pages-lost 22
 sets-written 23
@@ -136,7 +138,7 @@ no history was recorded, so nothing was judged beyond each caller's check of the
 
 /// The same as one JSON object.
 const OBJECT: &str =
-    "{\"operations\":4500,\"seconds\":2.007,\"operations-a-second\":2242,\"gets\":28,\"hit-ratio\":0.214,\"get-p50-ns\":51,\"get-p99-ns\":52,\"get-p999-ns\":53,\"get-max-ns\":54,\"put-p50-ns\":61,\"put-p99-ns\":62,\"put-p999-ns\":63,\"put-max-ns\":64,\"hits-memory\":1,\"hits-log\":2,\"hits-set\":3,\"misses-absent\":4,\"misses-expired\":5,\"misses-fault\":6,\"misses-damaged\":7,\"puts-stored\":8,\"puts-bytes\":9,\"puts-refused\":10,\"leases\":11,\"fills-stored\":12,\"fills-bytes\":13,\"fills-refused\":14,\"fills-stale\":15,\"pushed-declined\":16,\"pushed-logged\":17,\"pushed-log-full\":18,\"pushed-index-full\":19,\"copy-hits\":35,\"brought-back\":36,\"pages-written\":21,\"pages-lost\":22,\"sets-written\":23,\"sets-forgotten\":24,\"segments-freed\":25,\"moves-readmitted\":26,\"moves-dropped\":27,\"moves-refused\":28,\"upkeep-steps\":29,\"upkeep-in-help\":30,\"removals\":33,\"memory-objects\":31,\"log-records\":32,\"refused\":44,\"wrong-hits\":1}\n";
+    "{\"operations\":4500,\"seconds\":2.007,\"operations-a-second\":2242,\"gets\":28,\"hit-ratio\":0.214,\"get-p50-ns\":51,\"get-p99-ns\":52,\"get-p999-ns\":53,\"get-max-ns\":54,\"put-p50-ns\":61,\"put-p99-ns\":62,\"put-p999-ns\":63,\"put-max-ns\":64,\"hits-memory\":1,\"hits-log\":2,\"hits-set\":3,\"misses-absent\":4,\"misses-expired\":5,\"misses-fault\":6,\"misses-damaged\":7,\"puts-stored\":8,\"puts-bytes\":9,\"puts-refused\":10,\"leases\":11,\"fills-stored\":12,\"fills-bytes\":13,\"fills-refused\":14,\"fills-stale\":15,\"pushed-declined\":16,\"pushed-logged\":17,\"pushed-log-full\":18,\"pushed-index-full\":19,\"copy-hits\":35,\"brought-back\":36,\"pushed-copies\":37,\"pages-written\":21,\"pages-lost\":22,\"sets-written\":23,\"sets-forgotten\":24,\"segments-freed\":25,\"moves-readmitted\":26,\"moves-dropped\":27,\"moves-refused\":28,\"upkeep-steps\":29,\"upkeep-in-help\":30,\"removals\":33,\"memory-objects\":31,\"log-records\":32,\"refused\":44,\"wrong-hits\":1}\n";
 
 #[test]
 fn a_report_has_a_line_for_each_number(rt: HostRuntime) -> Result<(), Fail> {

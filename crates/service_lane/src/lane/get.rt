@@ -21,7 +21,10 @@ impl<D: PageDevice<PAGE>, const PAGE: usize> ServiceLane<D, PAGE> {
     /// Looks a key up, by its bytes. The value of a hit is in the buffer then, and it is told when it expires; at a miss the
     /// buffer is as it was. Memory is taken only to bring an object back, and if it is refused the object stays where it is.
     ///
-    /// A copy of an object on flash answers as of a set. A hit is the key's latest value not since removed, live at the moment: in memory whatever the device does, on flash if
+    /// A copy of an object on flash answers as of a set. A copy that is pushed out for the object that is brought back enters the
+    /// log if flash has it no more, so upkeep may be due after a get.
+    ///
+    /// A hit is the key's latest value not since removed, live at the moment: in memory whatever the device does, on flash if
     /// it gives back what was written. The moment is the caller's, and may go backwards. `KeyEmpty` and `KeyTooLong`, for bytes that
     /// are no key's, change nothing.
     pub fn get(
@@ -47,6 +50,7 @@ impl<D: PageDevice<PAGE>, const PAGE: usize> ServiceLane<D, PAGE> {
         let seen = self.asked.get_into(key, moment, found);
         self.counts.count(Counter::of_answer(seen.kind));
         self.counts.count_if(Counter::of_copied(seen.copied));
+        self.counts.count_if(Counter::of_fate_after(seen.copied));
         Ok(seen.kind)
     }
 

@@ -138,6 +138,8 @@ const COPY_HITS: usize = 31;
 
 const BROUGHT_BACK: usize = 32;
 
+const PUSHED_COPIES: usize = 33;
+
 #[test]
 fn each_status_comes_and_is_counted(rt: HostRuntime) -> Result<(), Fail> {
     let (stray, counts) = after(rt.alloc(), &SHAPE, &EACH_STATUS)?;
@@ -275,6 +277,116 @@ fn what_is_hit_on_flash_comes_back_until_it_is_written(rt: HostRuntime) -> Resul
         (numbers[MEMORY_HITS], numbers[LOG_HITS], numbers[SET_HITS]),
         (2, 6, 3)
     );
+    Ok(())
+}
+
+// One object of the store in memory, and three copies: each hit on flash has its object copied.
+const COPIES_EACH: LaneShape = LaneShape {
+    memory: 4,
+    entries: 32,
+    bring_back: 1,
+    ..SHAPE
+};
+
+// Two of the set's objects are copied. Then it forgets itself, with the ninth note that one of its objects is removed. Three objects
+// of the log push the copies out.
+const LOST_BELOW: [Step; 41] = [
+    Step::Put(b"ax", b"A", 9, Status::Done),
+    Step::Put(b"kkx", b"AA", 7, Status::Done),
+    Step::Put(b"bx", b"1", u64::MAX, Status::Done),
+    Step::Put(b"cx", b"2", u64::MAX, Status::Done),
+    Step::Put(b"dx", b"3", u64::MAX, Status::Done),
+    Step::Put(b"ex", b"4", u64::MAX, Status::Done),
+    Step::Put(b"fx", b"5", u64::MAX, Status::Done),
+    Step::Put(b"gx", b"6", u64::MAX, Status::Done),
+    Step::Put(b"hx", b"7", u64::MAX, Status::Done),
+    Step::Put(b"ix", b"8", u64::MAX, Status::Done),
+    Step::Put(b"jx", b"9", u64::MAX, Status::Done),
+    Step::Put(b"yx", &[7; 2048], u64::MAX, Status::Done),
+    Step::Put(b"zx", &[8; 2048], u64::MAX, Status::Done),
+    Step::Put(b"wx", &[9; 2048], u64::MAX, Status::Done),
+    Step::Put(b"px", b"10", u64::MAX, Status::Done),
+    Step::Tend(2, 1, 1),
+    Step::Tend(2, 0, 0),
+    Step::Hit(b"ax", 8, b"A", 3),
+    Step::Hit(b"kkx", 6, b"AA", 3),
+    Step::Remove(b"bx", Status::Done),
+    Step::Remove(b"cx", Status::Done),
+    Step::Remove(b"dx", Status::Done),
+    Step::Remove(b"ex", Status::Done),
+    Step::Remove(b"fx", Status::Done),
+    Step::Remove(b"gx", Status::Done),
+    Step::Remove(b"hx", Status::Done),
+    Step::Remove(b"ix", Status::Done),
+    Step::Remove(b"jx", Status::Done),
+    Step::Hit(b"ax", 8, b"A", 3),
+    Step::Hit(b"kkx", 6, b"AA", 3),
+    Step::Put(b"qx", b"11", u64::MAX, Status::Done),
+    Step::Put(b"rx", b"12", u64::MAX, Status::Done),
+    Step::Put(b"sx", b"13", u64::MAX, Status::Done),
+    Step::Hit(b"px", 0, b"10", 2),
+    Step::Hit(b"qx", 0, b"11", 2),
+    Step::Hit(b"rx", 0, b"12", 2),
+    Step::Miss(b"ax", 9, Status::Expired),
+    Step::Hit(b"ax", 8, b"A", 2),
+    Step::Miss(b"kkx", 7, Status::Expired),
+    Step::Hit(b"kkx", 6, b"AA", 2),
+    Step::Hit(b"px", 0, b"10", 2),
+];
+
+#[test]
+fn a_copy_that_flash_has_lost_enters_the_log(rt: HostRuntime) -> Result<(), Fail> {
+    let (stray, counters) = after(rt.alloc(), &COPIES_EACH, &LOST_BELOW)?;
+    assert_eq!(rt; stray, None);
+    let numbers = &counters.numbers;
+    assert_eq!(rt;
+        (
+            numbers[COPY_HITS],
+            numbers[BROUGHT_BACK],
+            numbers[PUSHED_COPIES]
+        ),
+        (2, 8, 3)
+    );
+    assert_eq!(rt; numbers[LOGGED], 19);
+    Ok(())
+}
+
+// Objects of the log are copied, one more than there is room for. The copies of those that are put or removed are gone.
+const WRITTEN_SINCE: [Step; 16] = [
+    Step::Put(b"ax", b"1", 9, Status::Done),
+    Step::Put(b"bx", b"2", u64::MAX, Status::Done),
+    Step::Put(b"cx", b"3", 5, Status::Done),
+    Step::Put(b"dx", b"4", u64::MAX, Status::Done),
+    Step::Hit(b"ax", 8, b"1", 2),
+    Step::Hit(b"bx", 0, b"2", 2),
+    Step::Remove(b"ax", Status::Done),
+    Step::Put(b"bx", b"55", 3, Status::Done),
+    Step::Put(b"ex", b"6", u64::MAX, Status::Done),
+    Step::Hit(b"cx", 4, b"3", 2),
+    Step::Hit(b"dx", 0, b"4", 2),
+    Step::Hit(b"bx", 2, b"55", 2),
+    Step::Miss(b"ax", 8, Status::Absent),
+    Step::Put(b"fx", b"7", u64::MAX, Status::Done),
+    Step::Hit(b"ex", 0, b"6", 2),
+    Step::Hit(b"cx", 4, b"3", 2),
+];
+
+#[test]
+fn a_copy_goes_where_flash_has_its_object_or_its_key_was_written(
+    rt: HostRuntime,
+) -> Result<(), Fail> {
+    let (stray, counters) = after(rt.alloc(), &COPIES_EACH, &WRITTEN_SINCE)?;
+    assert_eq!(rt; stray, None);
+    let numbers = &counters.numbers;
+    assert_eq!(rt;
+        (
+            numbers[COPY_HITS],
+            numbers[BROUGHT_BACK],
+            numbers[PUSHED_COPIES]
+        ),
+        (0, 7, 2)
+    );
+    assert_eq!(rt; numbers[LOGGED], 6);
     Ok(())
 }
 

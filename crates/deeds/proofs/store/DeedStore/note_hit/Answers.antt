@@ -1,5 +1,5 @@
 -- The store whose hit is noted.
-use Rattle.std.proofs.Common.{◌++◌, ◌∷◌, [], subst, sym}
+use Rattle.std.proofs.Common.{subst, sym}
 use Rattle.std.specs.Prelude.{IsTrue}
 use Rattle.record_pages.specs.declared.answer.Answer.TheVariants as answers
 use Rattle.record_pages.specs.declared.tier.Tier.TheVariants.{Set}
