@@ -6,6 +6,9 @@ mod Parting
 mod Lining
 mod Picking
 mod Growing
+mod Warming
+mod PastLemmas
+mod Pieces
 mod Keeping
 mod Showing
 mod Dropping

@@ -1,0 +1,73 @@
+// What is told of the calls of a stream.
+ghost use Rattle.std.specs.Prelude.{◌≡◌, ◌<◌, ◌==◌, if◌then◌else◌, max, ◌^◌, ◌&&◌, nat_le, IfNone, IfOk, IfSome, IsSomeAnd, length, slice_get, take};
+ghost use Rattle.record_pages.specs.Expiry.{never};
+ghost use Rattle.trace_file.specs.Lent.{act_shown};
+ghost use Rattle.history_window.specs.Acts.{is_reading};
+ghost use Rattle.history_window.specs.Standing.{StartFrom};
+ghost use Rattle.history_window.specs.Streams.{ArePast, last_end};
+
+use crate::settling::list_position;
+use crate::states::is_hit;
+use certificate_finder::MAX_CALLS;
+use record_pages::NEVER;
+use std::alloc::{AllocError, Global};
+use trace_file::{CallRef, History};
+
+/// The position of the first call that starts before a stamp, if there is one.
+pub fn first_before(history: &History, bound: u64) -> Option<usize>
+    ensures some { IfSome result (λ position. IsSomeAnd (slice_get history.now position)
+        (λ call. call.start < bound) × StartFrom bound (take position history.now)) }
+    ensures none { IfNone result (StartFrom bound history.now) }
+{
+    for position in 0..history.len() {
+        if history.at(position).start < bound {
+            return Some(position);
+        }
+    }
+    None
+}
+
+/// The last end of calls that returned, or this stamp, if that is later.
+pub fn last_end(history: &History, latest: u64) -> u64
+    ensures { result ≡ last_end latest history.now }
+{
+    let mut last = latest;
+    for position in 0..history.len() {
+        last = later_end(last, history.at(position).end);
+    }
+    last
+}
+
+/// The later of a stamp and an end, if that is one of a call that returned.
+fn later_end(latest: u64, end: u64) -> u64
+    ensures { result ≡ (if end == never then latest else max latest end) }
+{
+    if end == NEVER || end < latest {
+        latest
+    } else {
+        end
+    }
+}
+
+/// The positions of all calls of a history but for the hits that ended at a stamp or later, in order. `AllocError` comes if memory was
+/// refused, and if there are more than `MAX_CALLS` calls.
+pub fn past(alloc: Global, history: &History, bound: u64) -> Result<Vec<u32>, AllocError>
+    ensures { IfOk result (λ kept. ArePast bound history.now kept.items) }
+{
+    if history.len() > MAX_CALLS {
+        return Err(AllocError);
+    }
+    let mut kept = Vec::new(alloc);
+    for position in 0..history.len() {
+        let stays = !is_recent(&history.at(position), bound);
+        list_position(&mut kept, position as u32, stays)?;
+    }
+    Ok(kept)
+}
+
+/// Whether a call is a hit that ended at a stamp or later.
+fn is_recent(call: &CallRef<'_>, bound: u64) -> bool
+    ensures { result ≡ (is_reading (act_shown call.now.act) && nat_le bound call.now.end) }
+{
+    is_hit(&call.act) && bound <= call.end
+}
