@@ -10,7 +10,7 @@ use Rattle.certificate_checker.specs.Latest.{Writes}
 use Rattle.certificate_checker.specs.Orders.{Precedes, in_order}
 use Rattle.certificate_checker.proofs.public_laws.Listing.{Member, all_member, member_at, member_either, member_left}
 use Rattle.certificate_finder.specs.Spots.{is_miss}
-use Rattle.history_window.specs.Standing.{Acceptable, StartFrom}
+use Rattle.history_window.specs.Standing.{Acceptable, MayFollow}
 use Rattle.history_window.specs.Windows.{IsBefore, IsLastCut, IsWindow, ReadsLate, Stays}
 use Rattle.history_window.proofs.Ahead.{Once}
 use Rattle.history_window.proofs.CallLemmas.{end_is, late_begun, no_write, precedes_of, put_writes, same_value, start_is}
@@ -19,7 +19,7 @@ use Rattle.history_window.proofs.Showing.{shown_acceptable}
 use Rattle.history_window.proofs.Picking.{run, run_from}
 use Rattle.history_window.proofs.Keeping.{at_history, at_whole, kept_holds, late_placed, places, starts_late, holds_kept}
 
-module _ (bound : ℕ) (history later : List Call) (kept : List ℕ) (window : IsWindow bound history kept) (late : StartFrom bound later) (line : List ℕ) (once : Once line) (each : (p : ℕ) → p < length (history ++ later) → Member p line) (agrees : AgreesLine (history ++ later) line) (intervals : All (λ (call : Call). call.start ≤ call.end) (history ++ later)) where
+module _ (bound : ℕ) (history later : List Call) (kept : List ℕ) (window : IsWindow bound history kept) (late : All (MayFollow bound history) later) (line : List ℕ) (once : Once line) (each : (p : ℕ) → p < length (history ++ later) → Member p line) (agrees : AgreesLine (history ++ later) line) (intervals : All (λ (call : Call). call.start ≤ call.end) (history ++ later)) where
   module _ (hit : ℕ) (call : Call) (value : List ℕ) (moment : ℕ) (placed : Member hit (places history later kept)) (found : slice_get (history ++ later) hit ≡ Some call) (is : call.act ≡ Hit value moment) (r : ReadsIn (history ++ later) line hit call.key value moment) where
     spans : (p : ℕ) (c : Call) → slice_get (history ++ later) p ≡ Some c → c.start ≤ c.end
     spans p c at = all_member (λ (d : Call). d.start ≤ d.end) (history ++ later) c intervals (member_at (history ++ later) p c at)
@@ -64,9 +64,9 @@ module _ (bound : ℕ) (history later : List Call) (kept : List ℕ) (window : I
               ]
           | inr new ↦
               let past = run_from (length history) (length later) hit new in
-              let from = starts_late history later bound hit call late past.0 found in
               let over = last.is.over in
               let till = end_is history cut write last.is.writes.at in
+              let from = starts_late history later bound hit cut call call.key late past.0 found refl last.is.writes (omega (arith, over, till)) in
               not (omega (arith, from, over, till))
         ]
       where
@@ -120,6 +120,6 @@ module _ (bound : ℕ) (history later : List Call) (kept : List ℕ) (window : I
     ]
 
 -- a history without what a window forgets is acceptable if the whole one is
-pub kept_acceptable : (bound : ℕ) (history later : List Call) (kept : List ℕ) → IsWindow bound history kept → StartFrom bound later → Acceptable (history ++ later) → Acceptable (in_order history kept ++ later)
+pub kept_acceptable : (bound : ℕ) (history later : List Call) (kept : List ℕ) → IsWindow bound history kept → All (MayFollow bound history) later → Acceptable (history ++ later) → Acceptable (in_order history kept ++ later)
 kept_acceptable bound history later kept window late whole =
     shown_acceptable history later (Stays bound history) kept window (λ line once each agrees intervals. put_placed bound history later kept window late line once each agrees intervals) whole

@@ -9,7 +9,7 @@ use Rattle.certificate_checker.specs.Orders.{in_order}
 use Rattle.certificate_checker.proofs.public_laws.Accepting.{found_at}
 use Rattle.certificate_checker.proofs.public_laws.Listing.{Member, all_member, filter_member, member_all, member_contained, member_either, member_filter, member_left, member_right, pairs_append, pairs_filter, pairs_from}
 use Rattle.history_window.specs.Laws.{LinesAreAcceptable}
-use Rattle.history_window.specs.Standing.{Acceptable, StartFrom}
+use Rattle.history_window.specs.Standing.{Acceptable, MayFollow}
 use Rattle.history_window.specs.Windows.{IsWindow, Stays}
 use Rattle.history_window.proofs.Ahead.{Once, ahead_filter, filter_ahead, first_member, second_member}
 use Rattle.history_window.proofs.Joining.{joined_acceptable, lapses_both, order_of, tail_reads}
@@ -18,7 +18,7 @@ use Rattle.history_window.proofs.Lining.{AgreesLine, IsLawfulLine, agrees_to, la
 use Rattle.history_window.proofs.Picking.{IsLineOf, line_of, run, run_from}
 use Rattle.history_window.proofs.Restoring.{not_before, reads_forgotten}
 
-module _ (bound : ℕ) (history later : List Call) (kept : List ℕ) (window : IsWindow bound history kept) (late : StartFrom bound later) (line : List ℕ) (once : Once line) (below : (p : ℕ) → Member p line → p < length history) (each : (p : ℕ) → p < length history → Member p line) (intervals : All (λ call. call.start ≤ call.end) history) (agrees : AgreesLine history line) (lawful : IsLawfulLine history line) (tail : List ℕ) (is : IsLineOf (history ++ later) (places history later kept) tail) (lapses : All (λ (call : Call). call.start ≤ call.end) later) where
+module _ (bound : ℕ) (history later : List Call) (kept : List ℕ) (window : IsWindow bound history kept) (late : All (MayFollow bound history) later) (line : List ℕ) (once : Once line) (below : (p : ℕ) → Member p line → p < length history) (each : (p : ℕ) → p < length history → Member p line) (intervals : All (λ call. call.start ≤ call.end) history) (agrees : AgreesLine history line) (lawful : IsLawfulLine history line) (tail : List ℕ) (is : IsLineOf (history ++ later) (places history later kept) tail) (lapses : All (λ (call : Call). call.start ≤ call.end) later) where
   abbrev is_gone : ℕ → Bool
   is_gone p = not (is_in kept p)
 
@@ -105,7 +105,7 @@ module _ (bound : ℕ) (history later : List Call) (kept : List ℕ) (window : I
       (λ hit call value moment m at hits. tail_reads (history ++ later) gone tail joined_once hit call.key value moment m (is.lawful hit call value moment m at hits))
 
 -- a history is acceptable if it is acceptable without what a window forgets, and so is what it was when it forgot
-pub whole_acceptable : LinesAreAcceptable → (bound : ℕ) (history later : List Call) (kept : List ℕ) → IsWindow bound history kept → StartFrom bound later → Acceptable history → Acceptable (in_order history kept ++ later) → Acceptable (history ++ later)
+pub whole_acceptable : LinesAreAcceptable → (bound : ℕ) (history later : List Call) (kept : List ℕ) → IsWindow bound history kept → All (MayFollow bound history) later → Acceptable history → Acceptable (in_order history kept ++ later) → Acceptable (history ++ later)
 whole_acceptable lines_are bound history later kept window late past shown =
     let line = past.0 in
     let a = past.1 in

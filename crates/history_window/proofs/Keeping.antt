@@ -1,16 +1,19 @@
 -- Calls that are kept of a history, and what comes after it, within the whole history.
-use Rattle.std.proofs.Common.{◌≡◌, ◌≢◌, ℕ, ◌+◌, ◌-◌, ◌<◌, ◌≤◌, zero, suc, Bool, true, eqb, Some, List, [], ◌∷◌, ◌++◌, length, sym, ap, ◌∙◌, arith, inl, inr}
-use Rattle.std.specs.Prelude.{slice_get}
+use Rattle.std.proofs.Common.{◌≡◌, ◌≢◌, ℕ, ◌+◌, ◌-◌, ◌<◌, ◌≤◌, zero, suc, Bool, true, eqb, Some, List, [], ◌∷◌, ◌++◌, length, sym, ap, ◌∙◌, subst, arith, inl, inr}
+use Rattle.std.specs.Prelude.{All, slice_get}
 use Rattle.std.specs.List.{list_any}
 use Rattle.std.proofs.lemmas.List.{length-append}
 use Rattle.std.proofs.lemmas.List.Elements.{filter_map-append}
 use Rattle.std.proofs.lemmas.Option.{slice_get_within}
 use Rattle.trace_file.specs.declared.call.Call.{Call}
+use Rattle.certificate_checker.specs.Deeds.{deed_of}
+use Rattle.certificate_checker.specs.Latest.{Writes}
 use Rattle.certificate_checker.specs.Orders.{in_order}
 use Rattle.certificate_checker.proofs.public_laws.Listing.{Member, all_member, contained_member, member_at, member_contained, member_either, member_right, pairs_append, pairs_from, pairs_weaker}
 use Rattle.certificate_checker.proofs.public_laws.Lookups.{any_from_contains, contains_from_any}
 use Rattle.certificate_finder.specs.Lists.{AreAllBelow}
-use Rattle.history_window.specs.Standing.{StartFrom}
+use Rattle.certificate_finder.specs.Turns.{WritesAt}
+use Rattle.history_window.specs.Standing.{MayFollow}
 use Rattle.history_window.proofs.Ahead.{Once}
 use Rattle.history_window.proofs.Picking.{in_run, look_left, run, run_from, run_once, run_picks, same_picks}
 
@@ -43,8 +46,14 @@ module _ (history later : List Call) where
   pub in_later : (p : ℕ) (call : Call) → length history ≤ p → slice_get (history ++ later) p ≡ Some call → Member call later
   in_later p call past at = member_at later (p - length history) call (sym (look_right history later p (p - length history) (omega (arith, past))) ∙ at)
 
-  pub starts_late : (bound p : ℕ) (call : Call) → StartFrom bound later → length history ≤ p → slice_get (history ++ later) p ≡ Some call → bound ≤ call.start
-  starts_late bound p call late past at = all_member (λ (c : Call). bound ≤ c.start) later call late (in_later p call past at)
+  -- a later call of a key of which some write ended before the stamp starts at the stamp or later
+  pub starts_late : (bound p write : ℕ) (call : Call) (key : List ℕ) → All (MayFollow bound history) later → length history ≤ p → slice_get (history ++ later) p ≡ Some call → call.key ≡ key → (wrote : WritesAt history write key) → wrote.call.end < bound → bound ≤ call.start
+  starts_late bound p write call key late past at one_key wrote over = elim (all_member (MayFollow bound history) later call late (in_later p call past at)) [
+    | inl from ↦ from
+    | inr none ↦
+        let till : bound ≤ wrote.call.end = all_member (λ (c : Call). Writes (deed_of c) call.key → bound ≤ c.end) history wrote.call none (member_at history write wrote.call wrote.at) (subst (Writes (deed_of wrote.call)) (sym one_key) wrote.writes) in
+        absurd (omega (arith, over, till))
+  ]
 
   module _ (P : ℕ → Type 0) (kept : List ℕ) (all : AreAllBelow P (length history) kept) where
     pub kept_below : (p : ℕ) → Member p kept → p < length history

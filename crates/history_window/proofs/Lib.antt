@@ -6,6 +6,8 @@ mod Parting
 mod Lining
 mod Picking
 mod Growing
+mod Warming
+mod Pieces
 mod Keeping
 mod Showing
 mod Dropping

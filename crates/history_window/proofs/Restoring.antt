@@ -11,7 +11,7 @@ use Rattle.certificate_checker.specs.Orders.{Precedes}
 use Rattle.certificate_checker.proofs.public_laws.Listing.{Member, all_member, member_at, member_either}
 use Rattle.certificate_finder.specs.Spots.{is_miss}
 use Rattle.certificate_finder.specs.Turns.{IsHit}
-use Rattle.history_window.specs.Standing.{StartFrom}
+use Rattle.history_window.specs.Standing.{MayFollow}
 use Rattle.history_window.specs.Windows.{IsBefore, IsLastCut, IsPut, IsWindow, ReadsLate, Stays}
 use Rattle.history_window.proofs.Ahead.{Ahead, Once, ahead_either, ahead_joined}
 use Rattle.history_window.proofs.CallLemmas.{before_of, end_is, late_begun, no_write, precedes_of, put_writes, start_is}
@@ -130,7 +130,7 @@ module _ (bound : ℕ) (history : List Call) (line : List ℕ) (once : Once line
       | inr beside ↦ act_outlives one.act refl no_miss beside
     ]
 
-  module _ (later : List Call) (kept : List ℕ) (window : IsWindow bound history kept) (late : StartFrom bound later) (lapses : All (λ (call : Call). call.start ≤ call.end) later) where
+  module _ (later : List Call) (kept : List ℕ) (window : IsWindow bound history kept) (late : All (MayFollow bound history) later) (lapses : All (λ (call : Call). call.start ≤ call.end) later) where
     forgets : (p : ℕ) (call : Call) → slice_get history p ≡ Some call → ¬ Member p kept → ¬ Stays bound history p
     forgets p call at not stays = not (holds_kept history later (Stays bound history) kept window p (slice_get_within history p call at) stays)
 
@@ -164,10 +164,10 @@ module _ (bound : ℕ) (history : List Call) (line : List ℕ) (once : Once line
                     ]
                 | inr new ↦
                     let past = run_from (length history) (length later) q new in
-                    let from = starts_late history later bound q other late past.0 at_q in
-                    let span : other.start ≤ other.end = all_member (λ (c : Call). c.start ≤ c.end) later other lapses (in_later history later q other past.0 at_q) in
                     let over = last.is.over in
                     let till = end_is history cut write cut_at in
+                    let from = starts_late history later bound q cut other one.key late past.0 at_q (sym same_key) last.is.writes (omega (arith, over, till)) in
+                    let span : other.start ≤ other.end = all_member (λ (c : Call). c.start ≤ c.end) later other lapses (in_later history later q other past.0 at_q) in
                     inr (inl (before_of history cut p write one cut_at at_p (omega (arith, from, span, over, till, before))))
               ];
         })

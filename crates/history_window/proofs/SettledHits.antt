@@ -19,7 +19,7 @@ use Rattle.certificate_finder.specs.Spots.{is_miss}
 use Rattle.certificate_finder.specs.Turns.{WritesAt}
 use Rattle.history_window.specs.Laws.{LinesAreAcceptable}
 use Rattle.history_window.specs.Settled.{AreUnsettled, IsLastWrite, IsSettled, IsSettledHit}
-use Rattle.history_window.specs.Standing.{Acceptable, StartFrom}
+use Rattle.history_window.specs.Standing.{Acceptable, MayFollow}
 use Rattle.history_window.specs.Windows.{IsBefore}
 use Rattle.history_window.proofs.Ahead.{Ahead, Once, ahead_across, ahead_append, ahead_filter, ahead_left, filter_ahead, first_member, second_member}
 use Rattle.history_window.proofs.CallLemmas.{end_is, precedes_of, put_writes}
@@ -29,7 +29,7 @@ use Rattle.history_window.proofs.Lining.{AgreesLine, IsLawfulLine, ReadsIn, agre
 use Rattle.history_window.proofs.Picking.{IsLineOf, line_of, run, run_from}
 use Rattle.history_window.proofs.SettledLemmas.{IsLastOf, act_is, any_of, is_write_of, last_of, of_any, of_write, write_of, write_unsettled}
 
-module _ (bound : ℕ) (history later : List Call) (kept : List ℕ) (unsettled : AreUnsettled bound history kept) (late : StartFrom bound later) (line : List ℕ) (once : Once line) (below : (p : ℕ) → Member p line → p < length history) (each : (p : ℕ) → p < length history → Member p line) (intervals : All (λ call. call.start ≤ call.end) history) (agrees : AgreesLine history line) (lawful : IsLawfulLine history line) (whole_line : List ℕ) (is : IsLineOf (history ++ later) (places history later kept) whole_line) (lapses : All (λ (call : Call). call.start ≤ call.end) later) where
+module _ (bound : ℕ) (history later : List Call) (kept : List ℕ) (unsettled : AreUnsettled bound history kept) (late : All (MayFollow bound history) later) (line : List ℕ) (once : Once line) (below : (p : ℕ) → Member p line → p < length history) (each : (p : ℕ) → p < length history → Member p line) (intervals : All (λ call. call.start ≤ call.end) history) (agrees : AgreesLine history line) (lawful : IsLawfulLine history line) (whole_line : List ℕ) (is : IsLineOf (history ++ later) (places history later kept) whole_line) (lapses : All (λ (call : Call). call.start ≤ call.end) later) where
   abbrev Left : ℕ → Type 0
   Left p = ¬ IsSettledHit bound history p
 
@@ -169,6 +169,13 @@ module _ (bound : ℕ) (history later : List Call) (kept : List ℕ) (unsettled 
   source_first : (key : List ℕ) (p : ℕ) → HasGone key → WritesAt history p key → Member p front
   source_first key p has wrote = filter_member is_source line p (listed p wrote.call wrote.at) (write_source key p has wrote)
 
+  -- such a key has a write
+  has_write : (key : List ℕ) → HasGone key → ¬ ¬ ((p : ℕ) × WritesAt history p key)
+  has_write key has not = gone_left has.hit has.goes (holds_kept history later Left kept unsettled has.hit (slice_get_within history has.hit has.call has.at) (λ settled.
+      let r = lawful has.hit settled.is.call settled.value settled.moment (listed has.hit settled.is.call settled.is.at) settled.is.at settled.is.is in
+      let keys : settled.is.call.key ≡ key = ap (λ (c : Call). c.key) (same_Some settled.is.call has.call (sym settled.is.at ∙ has.at)) ∙ has.one_key in
+      not (r.put, record { call = r.call; at = r.at; writes = (r.one_key ∙ keys, put_writes r.call.act settled.value r.expires r.is) })))
+
   -- and each call of such a key in the tail starts at the stamp or later
   tail_starts : (key : List ℕ) (q : ℕ) (call : Call) → HasGone key → Member q tail → slice_get (history ++ later) q ≡ Some call → call.key ≡ key → bound ≤ call.start
   tail_starts key q call has n at one_key = elim (member_either kept (run (length history) (length later)) q (tail_placed q n)) [
@@ -178,7 +185,12 @@ module _ (bound : ℕ) (history later : List Call) (kept : List ℕ) (unsettled 
     ]
     | inr new ↦
         let past = run_from (length history) (length later) q new in
-        starts_late history later bound q call late past.0 at
+        elim (cases_lt call.start bound) [
+          | inl early ↦ absurd (has_write key has (λ w.
+              let from = starts_late history later bound q w.0 call key late past.0 at one_key w.1 (write_over key w.0 has w.1) in
+              omega (arith, from, early)))
+          | inr enough ↦ enough
+        ]
   ]
 
   -- what is forgotten stands in the front
@@ -321,7 +333,7 @@ module _ (bound : ℕ) (history later : List Call) (kept : List ℕ) (unsettled 
       | inl old ↦ no_source other n (write_source call.key other has (record { call = write; at = at_history history later other write (kept_below history later Left kept unsettled other old) at_other; writes = writes }))
       | inr new ↦
           let past = run_from (length history) (length later) other new in
-          let from = starts_late history later bound other write late past.0 at_other in
+          let from = starts_late history later bound other r.put write call.key late past.0 at_other writes.0 wrote put_over in
           let over = put_over in
           is.agrees other r.put write r.call sooner at_other r.at (omega (arith, from, over))
     ]
@@ -391,7 +403,7 @@ module _ (bound : ℕ) (history later : List Call) (kept : List ℕ) (unsettled 
       across lines_are (order_of (history ++ later) (front ++ tail) both_once both_below both_each) (lapses_both history later intervals lapses) front_lawful tail_hits
 
 -- a history is acceptable if it is acceptable without its settled hits, and so is what it was when they were settled
-pub settled_acceptable : LinesAreAcceptable → (bound : ℕ) (history later : List Call) (kept : List ℕ) → AreUnsettled bound history kept → StartFrom bound later → Acceptable history → Acceptable (in_order history kept ++ later) → Acceptable (history ++ later)
+pub settled_acceptable : LinesAreAcceptable → (bound : ℕ) (history later : List Call) (kept : List ℕ) → AreUnsettled bound history kept → All (MayFollow bound history) later → Acceptable history → Acceptable (in_order history kept ++ later) → Acceptable (history ++ later)
 settled_acceptable lines_are bound history later kept unsettled late past shown =
     let line = past.0 in
     let a = past.1 in

@@ -4,10 +4,12 @@ use Rattle.trace_file.specs.declared.call.Call.{Call}
 use Rattle.certificate_checker.specs.Deeds.{deed_of}
 use Rattle.certificate_checker.specs.Latest.{IsLawful}
 use Rattle.certificate_checker.specs.Orders.{IsOrder, in_order}
+use Rattle.certificate_finder.specs.declared.warmed.Warmed.{Warmed}
 use Rattle.certificate_finder.specs.Spots.{AreOfOne}
 use Rattle.certificate_finder.specs.Turns.{end_at, start_at}
+use Rattle.certificate_finder.specs.Warming.{IsWarmed, warm_puts}
 use Rattle.history_window.specs.Settled.{AreUnsettled}
-use Rattle.history_window.specs.Standing.{Acceptable, StandFor, StartFrom}
+use Rattle.history_window.specs.Standing.{Acceptable, MayFollow, StandFor, StartFrom}
 use Rattle.history_window.specs.Windows.{IsWindow}
 
 -- a line agrees with time key by key: of two calls of one key, neither a miss, the one that stands later does not end before the other starts
@@ -46,7 +48,7 @@ StandingGrows =
     (bound other : ℕ) (kept history more : List Call)
     → StandFor bound kept history
     → bound ≤ other
-    → StartFrom bound more
+    → All (MayFollow bound kept) more
     → StandFor other (kept ++ more) (history ++ more)
 
 -- what stands for calls that stand for others stands for those
@@ -63,8 +65,17 @@ ForgettingGoesOn =
     (bound other : ℕ) (history kept more : List Call) (window left : List ℕ)
     → StandFor bound kept history
     → bound ≤ other
-    → StartFrom bound more
+    → All (MayFollow bound kept) more
     → Acceptable (kept ++ more)
     → IsWindow other (kept ++ more) window
     → AreUnsettled other (in_order (kept ++ more) window) left
     → StandFor other (in_order (in_order (kept ++ more) window) left) (history ++ more)
+
+-- the next calls may follow acceptable calls, if they start at the stamp or later, and so may the puts that warming adds to both
+abbrev pub WarmingFollows : Type 0
+WarmingFollows =
+    (bound : ℕ) (kept more : List Call) (warm : Warmed)
+    → Acceptable kept
+    → StartFrom bound more
+    → IsWarmed (kept ++ more) warm
+    → All (MayFollow bound kept) (more ++ warm_puts (kept ++ more) warm.hits.items)

@@ -9,6 +9,7 @@ pub mod Ranks
 pub mod Reaches
 pub mod Settled
 pub mod Standing
+pub mod Streams
 pub mod States
 pub mod Tables
 pub mod Windows

@@ -1,5 +1,6 @@
 // Laws of windows.
-ghost use Rattle.history_window.specs.Laws.{ForgettingGoesOn, LinesAreAcceptable, StandingChains, StandingGrows, UnsettledStand, WindowStands};
+ghost use Rattle.history_window.specs.Laws.{ForgettingGoesOn, LinesAreAcceptable, StandingChains, StandingGrows, UnsettledStand, WarmingFollows, WindowStands};
+ghost use Rattle.history_window.specs.Streams.{PiecesStand};
 
 use certificate_finder::sorted_spots_are_accepted;
 
@@ -41,4 +42,17 @@ pub fn forgetting_goes_on()
 {
     window_stands();
     unsettled_stand();
+}
+
+/// The next calls may follow acceptable calls, if they start at the stamp or later, and so may the puts that warming adds to both.
+pub fn warming_follows()
+    ensures { WarmingFollows }
+{}
+
+/// What is judged with the last piece of a stream is acceptable exactly if all calls of all pieces are, with the puts that were added.
+pub fn pieces_stand()
+    ensures { PiecesStand }
+{
+    forgetting_goes_on();
+    warming_follows();
 }

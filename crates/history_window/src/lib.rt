@@ -13,12 +13,14 @@ mod peaks;
 mod ranks;
 mod settling;
 mod states;
+mod streams;
 mod tables;
 mod windowing;
 
 pub use laws::{
-    forgetting_goes_on, lines_are_acceptable, standing_chains, standing_grows, unsettled_stand,
-    window_stands,
+    forgetting_goes_on, lines_are_acceptable, pieces_stand, standing_chains, standing_grows, unsettled_stand,
+    warming_follows, window_stands,
 };
 pub use settling::unsettled;
+pub use streams::{first_before, last_end};
 pub use windowing::window;

@@ -1,9 +1,5 @@
-use Rattle.history_window.proofs.Dropping.{kept_acceptable}
-use Rattle.history_window.proofs.Forgetting.{whole_acceptable}
+use Rattle.history_window.proofs.Growing.{window_stand}
 use Rattle.history_window.proofs.laws.window_stands.Goals as goal
 
 pub returns : goal.returns
-returns c = λ bound history kept window past later late. (
-  whole_acceptable c.lines_are_acceptable.ensures bound history later kept window late past,
-  kept_acceptable bound history later kept window late,
-)
+returns c = window_stand c.lines_are_acceptable.ensures
