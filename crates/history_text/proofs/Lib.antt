@@ -1,4 +1,4 @@
-mod Reading
+mod PieceLaws
 mod WritingLaws
 mod NameLaws
 mod LineLaws

@@ -14,10 +14,11 @@ use Rattle.history_picture.specs.Names.{names_of}
 use Rattle.history_picture.specs.Reasons.{reason_of}
 use Rattle.history_text.specs.declared.bad_line.BadLine as bad_lines
 use Rattle.history_text.specs.Causes.{bad_line_text, cause_text}
+use Rattle.history_text.specs.declared.reading.Reading.{Reading}
 use Rattle.history_text.specs.Text.{Text, text_by, text_of}
 use Rattle.judge_run.specs.CallObjects.{with_calls}
 use Rattle.judge_run.specs.FaultsTold.{listed, more_text}
-use Rattle.judge_run.specs.Extents.{extent_rows, extent_text, recorded_of}
+use Rattle.judge_run.specs.Extents.{extent_rows, extent_text, own_of, recorded_of}
 use Rattle.judge_run.specs.FoundRows.{calls_row, found_rows, undecided_rows, verdict_row}
 use Rattle.judge_run.specs.FromStart.{start_lines}
 use Rattle.judge_run.specs.Kinds.{kind_rows}
@@ -97,10 +98,10 @@ pub record RejectedTold (form : Form) (text : Text) (extent : Extent) (detail : 
   pub witness : Witness
   pub is : IsWitness text.calls witness
   pub reason_is : rejection.reason ≡ reason_of witness
-  pub from_start : rejection.from_start.items ≡ start_lines text.lines (recorded_of extent (length text.calls)) witness
+  pub from_start : rejection.from_start.items ≡ start_lines text.lines (own_of extent (length text.calls)) witness
   pub faults : List Witness
   pub are_all : AreListed text.calls faults
-  pub behind : IsBehind form detail.explain (more_text (length faults) (key_count text.calls faults)) rejection (listed form detail.all text.calls text.lines (recorded_of extent (length text.calls)) faults (with_calls form text.calls text.lines (recorded_of extent (length text.calls)) witness (rejected_begun form text extent witness faults))) told
+  pub behind : IsBehind form detail.explain (more_text (length faults) (key_count text.calls faults)) rejection (listed form detail.all text.calls text.lines (own_of extent (length text.calls)) faults (with_calls form text.calls text.lines (own_of extent (length text.calls)) witness (rejected_begun form text extent witness faults))) told
 
 -- for some hits it was not decided what they read, and their number is reported
 pub record UndecidedTold (form : Form) (text : Text) (extent : Extent) (count : ℕ) (told : List ℕ) : Type 0 where
@@ -124,9 +125,9 @@ pub record SpelledTold (form : Form) (scope : Scope) (known : Option (List ℕ))
   pub judged : IsJudged scope known text extent
   pub is : IsHistoryTold form text extent detail outcome told
 
--- the bytes, if they are known, have this first bad line, which is reported
-pub record BadTold (form : Form) (known : Option (List ℕ)) (bad : bad_lines.BadLine) (told : List ℕ) : Type 0 where
-  pub read : IfSome known (λ bytes. text_of bytes ≡ Err bad)
+-- the bytes, if they are known, have this first bad line as they are read, which is reported
+pub record BadTold (form : Form) (how : Reading) (known : Option (List ℕ)) (bad : bad_lines.BadLine) (told : List ℕ) : Type 0 where
+  pub read : IfSome known (λ bytes. text_of how bytes ≡ Err bad)
   pub told_is : told ≡ bad_answer form bad
 
 -- the report on the bytes of a text, by the outcome of judging them
@@ -134,7 +135,7 @@ abbrev pub IsTextTold : Form → Scope → Option (List ℕ) → Detail → Outc
 IsTextTold form scope known detail (Accepted acceptance) told = SpelledTold form scope known detail (Accepted acceptance) told
 IsTextTold form scope known detail (Rejected rejection) told = SpelledTold form scope known detail (Rejected rejection) told
 IsTextTold form scope known detail (Undecided hits) told = SpelledTold form scope known detail (Undecided hits) told
-IsTextTold form scope known detail (BadLine bad) told = BadTold form known bad told
+IsTextTold form scope known detail (BadLine bad) told = BadTold form scope.reading known bad told
 IsTextTold form scope known detail (BadTrace fault) told = ⊥
 
 -- the report on a text was written, and nothing else

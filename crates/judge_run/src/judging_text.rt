@@ -3,7 +3,7 @@ ghost use Rattle.std.specs.Prelude.{◌≡◌, ◌≢◌, IfOk, IfErr, IfSome, O
 ghost use Rattle.std.specs.Io.KnownBytes.{IsAtEnd};
 ghost use Rattle.history_text.specs.Outcome.{IsFaultOf, Left};
 ghost use Rattle.history_text.specs.Text.{text_by};
-ghost use Rattle.judge_run.specs.Scopes.{IsJudged};
+ghost use Rattle.judge_run.specs.Scopes.{IsCounted, IsJudged};
 ghost use Rattle.certificate_finder.specs.Finding.{IfRejected, IsFound};
 ghost use Rattle.judge_run.specs.Listing.{IsListed};
 
@@ -15,7 +15,7 @@ use crate::scoping::scoped;
 use crate::warmed_text::WarmedText;
 use crate::warming::warmed_if;
 use certificate_finder::find_with_hasher;
-use history_text::{ReadTextFault, read_text};
+use history_text::{ReadText, ReadTextFault, read_text};
 use std::alloc::Global;
 use std::hash::BuildHasher;
 use std::io::Read;
@@ -40,14 +40,15 @@ pub fn judge_text<S: BuildHasher + Copy + Drop, R: Read>(
         length judged.text.lines.items ≡ length judged.text.history) }
     ensures end { OnOk result (IsAtEnd (R.remaining reader.new)) }
     ensures fault { IfErr result (λ fault. IfSome (R.remaining reader.old) (λ bytes.
-        IsFaultOf bytes fault)) }
+        IsFaultOf scope.reading bytes fault)) }
     ensures left { IfErr result (λ fault. fault ≢ ReadTextFault.OutOfMemory
-        → Left (R.remaining reader.old) (R.remaining reader.new) fault) }
+        → Left scope.reading (R.remaining reader.old) (R.remaining reader.new) fault) }
 {
-    let text = match read_text(alloc, hash_builder, reader) {
-        Ok(text) => text,
+    let read = match read_text(alloc, hash_builder, scope.reading, reader) {
+        Ok(read) => read,
         Err(fault) => return Err(fault),
     };
+    let ReadText { text, skipped } = read;
     let Ok(text) = scoped(alloc, text, scope) else {
         return Err(ReadTextFault::OutOfMemory);
     };
@@ -63,8 +64,19 @@ pub fn judge_text<S: BuildHasher + Copy + Drop, R: Read>(
     };
     Ok(JudgedText {
         text,
-        extent: Extent { from_start },
+        extent: Extent {
+            from_start,
+            skipped: counted(scope.reading.skip_bad, skipped),
+            forgotten: None,
+        },
         found,
         faults,
     })
+}
+
+/// A number, if it is asked for.
+fn counted(asked: bool, count: u64) -> Option<u64>
+    ensures { IsCounted asked count result }
+{
+    if asked { Some(count) } else { None }
 }

@@ -11,7 +11,7 @@ use crate::answers::ended;
 use crate::call_objects::with_calls;
 use crate::detail::Detail;
 use crate::extent::Extent;
-use crate::extents::recorded_of;
+use crate::extents::{own_of, recorded_of};
 use crate::fault_list::FaultList;
 use crate::fault_telling::{listed, more_text};
 use crate::from_start::start_lines;
@@ -160,7 +160,7 @@ fn told_rejected<S: BuildHasher + Drop>(
         (text_by text.history text.lines.items text.callers)
         extent.now detail told.outcome (string_bytes told.text)) }
 {
-    let recorded = recorded_of(extent, text.history.len());
+    let recorded = own_of(extent, text.history.len());
     let begun = with_calls(
         alloc,
         form,

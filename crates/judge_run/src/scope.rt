@@ -1,4 +1,5 @@
 // What of a text is judged.
+use history_text::Reading;
 
 /// What of the calls that a text spells is judged.
 #[derive(Clone, Copy, Debug, PartialEq, Eq)]
@@ -9,12 +10,15 @@ pub struct Scope {
     /// Whether the cache may have been filled before the calls: a value that a hit read and nobody put is taken as there from the
     /// start, one of a key, as `certificate_finder::warm` has it.
     pub warm: bool,
+    /// Which keys' calls are read, and whether bad lines are passed over.
+    pub reading: Reading,
 }
 
 impl Scope {
-    /// All calls, as they were recorded.
+    /// All calls, as they were recorded. A bad line is a fault.
     pub const WHOLE: Scope = Scope {
         skew: 0,
         warm: false,
+        reading: Reading::WHOLE,
     };
 }
