@@ -329,6 +329,7 @@ module _ (bound : ℕ) (history later : List Call) (kept : List ℕ) (unsettled 
     final_is = act_is final_wrote.call.act value r.expires (λ not. settled_of call.key has (λ settled. not (settled.alike final.0 final_last ∙ sym (settled.alike r.put put_last) ∙ r.is)))
 
     none_later : (other : ℕ) (write : Call) → slice_get (history ++ later) other ≡ Some write → Writes (deed_of write) call.key → Member other tail → ¬ Ahead whole_line other r.put
+    unfolding wrote
     none_later other write at_other writes n sooner = elim (member_either kept (run (length history) (length later)) other (tail_placed other n)) [
       | inl old ↦ no_source other n (write_source call.key other has (record { call = write; at = at_history history later other write (kept_below history later Left kept unsettled other old) at_other; writes = writes }))
       | inr new ↦

@@ -1,5 +1,5 @@
 -- How what is judged differs from what a text spells.
-use Rattle.std.specs.Prelude.{ℕ, ◌+◌, ◌-◌, ◌^◌, min, Bool, true, false, List, [], ◌∷◌, ◌++◌, codes, Option, Some, None, unwrap_or}
+use Rattle.std.specs.Prelude.{ℕ, ◌+◌, ◌-◌, ◌^◌, min, Bool, true, false, List, [], ◌∷◌, ◌++◌, codes, Option, Some, None, option_map, unwrap_or}
 use Rattle.std.specs.Fmt.{decimal}
 use Rattle.figures.specs.Figures.{Row, number, row}
 use Rattle.judge_run.specs.declared.extent.Extent.{Extent}
@@ -18,9 +18,18 @@ forgotten_of (Some gone) = gone.puts + gone.removals + gone.hits + gone.misses
 abbrev pub with_forgotten : ℕ → ℕ → ℕ
 with_forgotten own gone = min (own + gone) (2 ^ 64 - 1)
 
--- how many calls of a text were judged: its own of so many, and those that were forgotten
+-- how many puts were added with earlier pieces, whether they are held or not
+abbrev pub added_before : Option Forgotten → ℕ
+added_before None = 0
+added_before (Some gone) = gone.added
+
+-- how many calls of a text were judged: its own of so many, and those that were forgotten, without the puts that were added with earlier pieces
 abbrev pub recorded_of : Extent → ℕ → ℕ
-recorded_of extent calls = with_forgotten (own_of extent calls) (forgotten_of extent.forgotten)
+recorded_of extent calls = with_forgotten (own_of extent calls) (forgotten_of extent.forgotten) - added_before extent.forgotten
+
+-- how many values were taken as there from the start, if that was asked for
+abbrev pub from_start_of : Extent → Option ℕ
+from_start_of extent = option_map (λ values. with_forgotten values (added_before extent.forgotten)) extent.from_start
 
 -- a number as a line of its own, if it is asked for
 abbrev pub count_text : List ℕ → Option ℕ → List ℕ
@@ -40,13 +49,13 @@ forgotten_if (Some gone) = Some (forgotten_of (Some gone))
 -- the lines that tell how what is judged differs from what the text spells, each if that was asked for
 abbrev pub extent_text : Extent → List ℕ
 extent_text extent =
-    count_text (codes " values were taken as there from the start\n") extent.from_start
+    count_text (codes " values were taken as there from the start\n") (from_start_of extent)
     ++ (count_text (codes " bad lines were passed over\n") extent.skipped
     ++ count_text (codes " calls were judged and forgotten\n") (forgotten_if extent.forgotten))
 
 -- the same as rows
 abbrev pub extent_rows : Extent → List Row
 extent_rows extent =
-    count_row (codes "values-from-start") extent.from_start
+    count_row (codes "values-from-start") (from_start_of extent)
     ++ (count_row (codes "bad-lines") extent.skipped
     ++ count_row (codes "calls-forgotten") (forgotten_if extent.forgotten))

@@ -1,12 +1,12 @@
 -- How many calls of each kind there are.
-use Rattle.std.specs.Prelude.{ℕ, List, [], ◌∷◌, Bool, true, false, codes, count_by, Option, Some, None}
+use Rattle.std.specs.Prelude.{ℕ, ◌-◌, List, [], ◌∷◌, Bool, true, false, codes, count_by, Option, Some, None}
 use Rattle.trace_file.specs.declared.act.Act.{Act}
 use Rattle.trace_file.specs.declared.act.Act.TheVariants as acts
 use Rattle.trace_file.specs.declared.call.Call.{Call}
 use Rattle.figures.specs.Figures.{Row, number, row}
 use Rattle.judge_run.specs.declared.extent.Extent.{Extent}
 use Rattle.judge_run.specs.declared.forgotten.Forgotten.{Forgotten}
-use Rattle.judge_run.specs.Extents.{own_of, with_forgotten}
+use Rattle.judge_run.specs.Extents.{added_before, own_of, with_forgotten}
 use Rattle.judge_run.specs.declared.kinds.CountedKind.{CountedKind}
 use Rattle.judge_run.specs.declared.kinds.CountedKind.TheVariants.{Put, Removal, Hit, Miss}
 
@@ -52,7 +52,7 @@ told_of kind extent own = with_forgotten own (gone_of kind extent.forgotten)
 -- how many calls of each kind were judged; puts that were added don't count
 abbrev pub kind_rows : Extent → List Call → List Row
 kind_rows extent calls =
-    row (codes "puts") (number (told_of Put extent (own_of extent (calls_of Put calls))))
+    row (codes "puts") (number (told_of Put extent (own_of extent (calls_of Put calls)) - added_before extent.forgotten))
     ∷ row (codes "removals") (number (told_of Removal extent (calls_of Removal calls)))
     ∷ row (codes "hits") (number (told_of Hit extent (calls_of Hit calls)))
     ∷ row (codes "misses") (number (told_of Miss extent (calls_of Miss calls)))

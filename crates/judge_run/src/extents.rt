@@ -1,7 +1,7 @@
 // Telling how what is judged differs from what a text spells.
 ghost use Rattle.std.specs.Prelude.{◌≡◌, ◌<◌, ◌^◌, IfOk, OnOk, option_map, string_bytes};
 ghost use Rattle.figures.specs.Figures.{with_rows};
-ghost use Rattle.judge_run.specs.Extents.{count_row, count_text, extent_rows, extent_text, forgotten_if, forgotten_of, own_of, recorded_of, with_forgotten};
+ghost use Rattle.judge_run.specs.Extents.{count_row, count_text, added_before, extent_rows, extent_text, from_start_of, forgotten_if, forgotten_of, own_of, recorded_of, with_forgotten};
 
 use crate::extent::Extent;
 use crate::forgotten::Forgotten;
@@ -42,7 +42,18 @@ pub(crate) fn with_forgotten(own: usize, gone: usize) -> usize
 pub(crate) fn recorded_of(extent: &Extent, calls: usize) -> usize
     ensures { result ≡ recorded_of extent.now calls }
 {
-    with_forgotten(own_of(extent, calls), forgotten_of(extent.forgotten))
+    let all = with_forgotten(own_of(extent, calls), forgotten_of(extent.forgotten));
+    all.saturating_sub(added_before(extent.forgotten))
+}
+
+/// How many puts were added with earlier pieces.
+pub(crate) fn added_before(forgotten: Option<Forgotten>) -> usize
+    ensures { result ≡ added_before forgotten }
+{
+    match forgotten {
+        Some(gone) => gone.added as usize,
+        None => 0,
+    }
 }
 
 /// How many calls were forgotten, if some could be.
@@ -57,10 +68,10 @@ fn forgotten_if(extent: &Extent) -> Option<u64>
 
 /// How many values were taken as there from the start, if that was asked for.
 fn from_start_of(extent: &Extent) -> Option<u64>
-    ensures { result ≡ extent.now.from_start }
+    ensures { result ≡ from_start_of extent.now }
 {
     match extent.from_start {
-        Some(values) => Some(values as u64),
+        Some(values) => Some(with_forgotten(values, added_before(extent.forgotten)) as u64),
         None => None,
     }
 }

@@ -12,4 +12,17 @@ pub struct Forgotten {
     pub hits: u32,
     /// How many misses.
     pub misses: u32,
+    /// How many puts were added with earlier pieces, whether they are held or not. `puts` has those that were forgotten.
+    pub added: u32,
+}
+
+impl Forgotten {
+    /// Nothing was forgotten.
+    pub(crate) const NONE: Forgotten = Forgotten {
+        puts: 0,
+        removals: 0,
+        hits: 0,
+        misses: 0,
+        added: 0,
+    };
 }

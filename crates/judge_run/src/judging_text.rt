@@ -12,6 +12,7 @@ use crate::judged_text::JudgedText;
 use crate::listing::faults_of;
 use crate::scope::Scope;
 use crate::scoping::scoped;
+use crate::streaming::judge_stream;
 use crate::warmed_text::WarmedText;
 use crate::warming::warmed_if;
 use certificate_finder::find_with_hasher;
@@ -19,6 +20,9 @@ use history_text::{ReadText, ReadTextFault, read_text};
 use std::alloc::Global;
 use std::hash::BuildHasher;
 use std::io::Read;
+
+/// The fewest calls of a piece, if a text is read as a stream.
+const LEAST_PIECE: usize = 65_536;
 
 /// Reads the history that a text spells, and looks for a certificate with which it is accepted as it is judged in this scope. If it
 /// is rejected, all its faults are listed.
@@ -44,6 +48,19 @@ pub fn judge_text<S: BuildHasher + Copy + Drop, R: Read>(
     ensures left { IfErr result (λ fault. fault ≢ ReadTextFault.OutOfMemory
         → Left scope.reading (R.remaining reader.old) (R.remaining reader.new) fault) }
 {
+    match scope.window {
+        None => judge_whole(alloc, hash_builder, scope, reader),
+        Some(window) => judge_stream(alloc, hash_builder, scope, window, LEAST_PIECE, reader),
+    }
+}
+
+/// The same of a text that is read whole.
+fn judge_whole<S: BuildHasher + Copy + Drop, R: Read>(
+    alloc: Global,
+    hash_builder: S,
+    scope: Scope,
+    reader: &mut R,
+) -> Result<JudgedText<S>, ReadTextFault> {
     let read = match read_text(alloc, hash_builder, scope.reading, reader) {
         Ok(read) => read,
         Err(fault) => return Err(fault),
@@ -75,7 +92,7 @@ pub fn judge_text<S: BuildHasher + Copy + Drop, R: Read>(
 }
 
 /// A number, if it is asked for.
-fn counted(asked: bool, count: u64) -> Option<u64>
+pub(crate) fn counted(asked: bool, count: u64) -> Option<u64>
     ensures { IsCounted asked count result }
 {
     if asked { Some(count) } else { None }

@@ -5,7 +5,7 @@ ghost use Rattle.figures.specs.Figures.{with_rows};
 ghost use Rattle.judge_run.specs.Kinds.{calls_of, gone_of, is_of, kind_rows, told_of};
 
 use crate::extent::Extent;
-use crate::extents::{own_of, with_forgotten};
+use crate::extents::{added_before, own_of, with_forgotten};
 use crate::forgotten::Forgotten;
 use figures::{Figure, Form};
 use std::alloc::{AllocError, Global};
@@ -33,7 +33,7 @@ fn is_of(kind: CountedKind, call: &CallRef<'_>) -> bool
 }
 
 /// How many calls of a kind a history has.
-fn calls_of(history: &History, kind: CountedKind) -> usize
+pub(crate) fn calls_of(history: &History, kind: CountedKind) -> usize
     ensures { result ≡ calls_of kind history.now }
 {
     let mut calls = 0;
@@ -79,7 +79,8 @@ pub(crate) fn tell_kinds(
         ≡ with_rows form (string_bytes text.old) (kind_rows extent.now history.now)) }
 {
     let own = own_of(extent, calls_of(history, CountedKind::Put));
-    let puts = told_of(CountedKind::Put, extent, own);
+    let puts = told_of(CountedKind::Put, extent, own)
+        .saturating_sub(added_before(extent.forgotten));
     let removals = calls_of(history, CountedKind::Removal);
     let removals = told_of(CountedKind::Removal, extent, removals);
     let hits = calls_of(history, CountedKind::Hit);

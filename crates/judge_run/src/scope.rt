@@ -12,6 +12,9 @@ pub struct Scope {
     pub warm: bool,
     /// Which keys' calls are read, and whether bad lines are passed over.
     pub reading: Reading,
+    /// How far before the last end so far a call that is still to come may start, in the unit of the stamps, if the text is read as a
+    /// stream: what was judged is then forgotten, once nothing that comes later can depend on it.
+    pub window: Option<u64>,
 }
 
 impl Scope {
@@ -20,5 +23,6 @@ impl Scope {
         skew: 0,
         warm: false,
         reading: Reading::WHOLE,
+        window: None,
     };
 }

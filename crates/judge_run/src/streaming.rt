@@ -9,7 +9,9 @@ ghost use Rattle.judge_run.specs.Streams.{IsStreamFault, IsStreamed};
 use crate::extent::Extent;
 use crate::forgetting::kept_of;
 use crate::forgotten::Forgotten;
+use crate::judging_text::counted;
 use crate::judged_text::JudgedText;
+use crate::kind_counts::{counts_of, grown};
 use crate::listing::faults_of;
 use crate::piece_end::PieceEnd;
 use crate::scope::Scope;
@@ -58,11 +60,85 @@ pub fn judge_stream<S: BuildHasher + Copy + Drop, R: Read>(
             Ok(taken) => taken,
             Err(fault) => return Err(fault),
         };
-        match judge_piece(alloc, hash_builder, scope, window, taken) {
+        let skipped = counted(scope.reading.skip_bad, lines.skipped());
+        match judge_piece(alloc, hash_builder, scope, window, skipped, taken) {
             Ok(PieceEnd::Over(judged)) => return Ok(judged),
             Ok(PieceEnd::On(kept)) => stream = kept,
             Err(_) => return Err(ReadTextFault::OutOfMemory),
         }
     }
     Err(ReadTextFault::OutOfMemory)
+}
+
+/// Judges the calls that are kept and those of a piece, of a text of which so many bad lines were passed over. If they are accepted
+/// and the input is not over, it forgets what can exclude nothing any more.
+fn judge_piece<S: BuildHasher + Copy + Drop>(
+    alloc: Global,
+    hash_builder: S,
+    scope: Scope,
+    window: u64,
+    skipped: Option<u64>,
+    taken: TakenPiece<S>,
+) -> Result<PieceEnd<S>, AllocError> {
+    let TakenPiece {
+        text,
+        latest,
+        forgotten,
+        over,
+    } = taken;
+    let warm = warmed_if(alloc, hash_builder, text, scope.warm)?;
+    let found = find_with_hasher(alloc, hash_builder, &warm.text.history)?;
+    if !over && is_accepted(&found) {
+        return match go_on(alloc, hash_builder, window, warm, latest, forgotten) {
+            Ok(stream) => Ok(PieceEnd::On(stream)),
+            Err(refused) => Err(refused),
+        };
+    }
+    let WarmedText { text, from_start } = warm;
+    let faults = faults_of(alloc, hash_builder, &text.history, &found)?;
+    let extent = Extent {
+        from_start,
+        skipped,
+        forgotten: Some(forgotten),
+    };
+    Ok(PieceEnd::Over(JudgedText {
+        text,
+        extent,
+        found,
+        faults,
+    }))
+}
+
+/// Whether a certificate was found.
+fn is_accepted(found: &Found) -> bool {
+    match found {
+        Found::Accepted(_) => true,
+        Found::Rejected(_) => false,
+        Found::Undecided(_) => false,
+    }
+}
+
+/// What is kept of a text that is accepted.
+fn go_on<S: BuildHasher + Copy + Drop>(
+    alloc: Global,
+    hash_builder: S,
+    window: u64,
+    warm: WarmedText<S>,
+    latest: u64,
+    forgotten: Forgotten,
+) -> Result<Stream<S>, AllocError> {
+    let WarmedText { text, from_start } = warm;
+    let bound = latest.saturating_sub(window);
+    let before = counts_of(&text.history);
+    let text = kept_of(alloc, hash_builder, text, bound)?;
+    let after = counts_of(&text.history);
+    match grown(forgotten, &before, &after, from_start) {
+        Some(forgotten) => Ok(Stream {
+            text,
+            bound,
+            latest,
+            forgotten,
+        }),
+        None => Err(AllocError),
+    }
 }
