@@ -8,6 +8,7 @@ use crate::kinds::{CountedKind, calls_of};
 use trace_file::History;
 
 /// How many calls of each kind a history has.
+#[derive(Drop)]
 pub(crate) struct KindCounts {
     puts: usize,
     removals: usize,

@@ -77,7 +77,7 @@ fn before_window(line: u32) -> ReadTextFault
 }
 
 /// Calls, which stand on these lines, and after them those of a text.
-fn joined<S: BuildHasher>(
+fn joined<S: BuildHasher + Drop>(
     history: History,
     lines: Vec<u32>,
     piece: TextHistory<S>,
