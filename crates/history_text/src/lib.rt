@@ -30,7 +30,7 @@ pub use callers::{Callers, MAX_CALLERS};
 pub use coding::word;
 pub use from_reader::read_text;
 pub use key_word::key_bytes;
-pub use laws::{history_laws, word_laws};
+pub use laws::{history_laws, reading_laws, word_laws};
 pub use line_cause::LineCause;
 pub use lines::MAX_TEXT_LINE_LEN;
 pub use read_text_fault::ReadTextFault;

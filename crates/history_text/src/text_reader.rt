@@ -1,5 +1,5 @@
 // Reading a text piece by piece.
-ghost use Rattle.std.specs.Prelude.{◌≡◌, ◌+◌, ◌<◌, ◌≤◌, ◌^◌, [], IfOk, IfErr, OnOk, length, true, false};
+ghost use Rattle.std.specs.Prelude.{◌≡◌, ◌+◌, ◌<◌, ◌≤◌, ◌^◌, [], IfOk, IfErr, IfSome, OnOk, length, true, false};
 ghost use Rattle.std.specs.Io.KnownBytes.{IsAtEnd};
 ghost use Rattle.history_text.specs.Outcome.{fault_at};
 ghost use Rattle.history_text.specs.Pieces.{IsFaultFrom, LeftAfter, TakesPiece, left_of};
@@ -93,8 +93,10 @@ impl TextReader {
         ensures few { OnOk result (length text.new.history ≤ length text.old.history + most) }
         ensures full { IfOk result (λ over. over ≡ false
             → length text.new.history ≡ length text.old.history + most) }
+        ensures end { IfOk result (λ over. over ≡ true → IsAtEnd (R.remaining reader.new)) }
         ensures over { IfOk result (λ over. over ≡ true
-            → IsAtEnd (left_of self.new (R.remaining reader.new)) × IsAtEnd (R.remaining reader.new)) }
+            → IfSome (left_of self.old (R.remaining reader.old))
+            (λ _. IsAtEnd (left_of self.new (R.remaining reader.new)))) }
         ensures fault { IfErr result (IsFaultFrom (left_of self.old (R.remaining reader.old)) self.old
             (text_by text.old.history text.old.lines.items text.old.callers)) }
         ensures left { IfErr result (LeftAfter (left_of self.old (R.remaining reader.old)) self.old
@@ -128,8 +130,10 @@ impl TextReader {
         ensures one { OnOk result (length text.new.history ≤ length text.old.history + 1) }
         ensures more { IfOk result (λ more. more ≡ true → self.old.number < self.new.number) }
         ensures few { self.new.number ≤ 2 ^ 32 }
+        ensures end { IfOk result (λ more. more ≡ false → IsAtEnd (R.remaining reader.new)) }
         ensures over { IfOk result (λ more. more ≡ false
-            → IsAtEnd (left_of self.new (R.remaining reader.new)) × IsAtEnd (R.remaining reader.new)) }
+            → IfSome (left_of self.old (R.remaining reader.old))
+            (λ _. IsAtEnd (left_of self.new (R.remaining reader.new)))) }
         ensures fault { IfErr result (IsFaultFrom (left_of self.old (R.remaining reader.old)) self.old
             (text_by text.old.history text.old.lines.items text.old.callers)) }
         ensures left { IfErr result (LeftAfter (left_of self.old (R.remaining reader.old)) self.old
