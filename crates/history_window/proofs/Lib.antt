@@ -7,6 +7,7 @@ mod Lining
 mod Picking
 mod Growing
 mod Warming
+mod PastLemmas
 mod Pieces
 mod Keeping
 mod Showing

@@ -1,8 +1,9 @@
 -- What is kept of the pieces of a stream stands for them.
-use Rattle.std.proofs.Common.{◌≡◌, ℕ, ◌<◌, ◌≤◌, ◌-◌, ◌==◌, max, Bool, true, false, cond, List, [], ◌∷◌, ◌++◌, length, refl, sym, ap, ◌∙◌, subst, arith, inl, inr, append-nil}
+use Rattle.std.proofs.Common.{◌≡◌, ℕ, ◌<◌, ◌≤◌, ◌-◌, ◌==◌, max, Bool, true, false, cond, List, [], ◌∷◌, ◌++◌, length, refl, sym, ap, ◌∙◌, subst, arith, inl, inr, append-nil, append_assoc}
 use Rattle.std.specs.Prelude.{◌↔◌, All}
 use Rattle.std.specs.List.{fold}
 use Rattle.std.proofs.lemmas.List.{length-append}
+use Rattle.std.proofs.lemmas.List.Elements.{All-append}
 use Rattle.std.proofs.lemmas.List.Sums.{fold-append}
 use Rattle.std.proofs.Math.Nat.{le-max_left}
 use Rattle.record_pages.specs.Expiry.{never}
@@ -14,7 +15,7 @@ use Rattle.certificate_checker.proofs.public_laws.Listing.{all_member, member_al
 use Rattle.certificate_finder.specs.Warming.{warm_puts}
 use Rattle.history_window.specs.Laws.{ForgettingGoesOn, WarmingFollows}
 use Rattle.history_window.specs.Standing.{Acceptable, MayFollow, StandFor, StartFrom}
-use Rattle.history_window.specs.Streams.{ArePieces, ArePuts, ComesAfter, IsKept, IsKeptAfter, Piece, PiecesStand, all_in, calls_in, judged_in, judged_lines, last_end, later_end}
+use Rattle.history_window.specs.Streams.{ArePieces, ArePuts, ComesAfter, IsKept, IsKeptAfter, Piece, PastStands, PiecesExclude, PiecesStand, all_in, calls_in, judged_in, judged_lines, last_end, later_end}
 use Rattle.history_window.proofs.Growing.{stands_now}
 
 -- ---- the last end only grows
@@ -97,3 +98,14 @@ module _ (goes_on : ForgettingGoesOn) (warming : WarmingFollows) (length_of : �
 pub pieces_stand : ForgettingGoesOn → WarmingFollows → PiecesStand
 pieces_stand goes_on warming length_of warm last earlier are =
     judged_stands goes_on warming length_of warm last earlier are.1 (ready goes_on warming length_of warm earlier last.bound last.kept last.kept_lines are.0 are.1.bound_is are.1.kept)
+
+pub pieces_exclude : ForgettingGoesOn → WarmingFollows → PastStands → PiecesExclude
+pieces_exclude goes_on warming stands length_of bound warm last earlier past are le is_past none later from whole =
+    let before = ready goes_on warming length_of warm earlier last.bound last.kept last.kept_lines are.0 are.1.bound_is are.1.kept in
+    let more = last.calls ++ last.puts in
+    let first = follow goes_on warming length_of warm last earlier are.1 before in
+    let sooner : StartFrom last.bound later = member_all (λ (c : Call). last.bound ≤ c.start) later (λ c m. let start : bound ≤ c.start = all_member (λ (d : Call). bound ≤ d.start) later c from m in omega (arith, le, start)) in
+    let both : All (MayFollow last.bound last.kept) (more ++ later) = All-append (MayFollow last.bound last.kept) more later first (early_follow last.bound last.kept later sooner) in
+    let alike = before.stands.alike (more ++ later) both in
+    let here = alike.1 (subst Acceptable (append_assoc (all_in earlier) more later) whole) in
+    none (stands bound (judged_in last) later past is_past from (subst Acceptable (sym (append_assoc last.kept more later)) here))

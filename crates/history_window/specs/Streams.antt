@@ -1,10 +1,12 @@
 -- What a judge reads of a stream of calls, piece by piece, and what it keeps.
-use Rattle.std.specs.Prelude.{◌≡◌, ◌↔◌, ℕ, ◌+◌, ◌-◌, ◌==◌, max, Bool, true, false, List, [], ◌∷◌, ◌++◌, length, slice_get, if◌then◌else◌}
+use Rattle.std.specs.Prelude.{◌≡◌, ◌↔◌, ℕ, ◌+◌, ◌-◌, ◌≤◌, ◌==◌, max, Bool, true, false, List, [], ◌∷◌, ◌++◌, length, slice_get, if◌then◌else◌}
 use Rattle.std.specs.List.{filter_map, fold}
 use Rattle.record_pages.specs.Expiry.{never}
 use Rattle.trace_file.specs.declared.call.Call.{Call}
 use Rattle.certificate_checker.specs.Orders.{in_order}
 use Rattle.certificate_finder.specs.declared.warmed.Warmed.{Warmed}
+use Rattle.certificate_finder.specs.Lists.{AreAllBelow}
+use Rattle.certificate_finder.specs.Turns.{IsHit, end_at}
 use Rattle.certificate_finder.specs.Warming.{IsWarmed, warm_puts}
 use Rattle.history_window.specs.Settled.{AreUnsettled}
 use Rattle.history_window.specs.Standing.{Acceptable, StartFrom}
@@ -97,3 +99,36 @@ PiecesStand =
     (length_of : ℕ) (warm : Bool) (last : Piece) (earlier : List Piece)
     → ArePieces length_of warm (last ∷ earlier)
     → Acceptable (judged_in last) ↔ Acceptable (all_in (last ∷ earlier))
+
+-- the call at a position is a hit that ended at a stamp or later
+pub record IsRecent (bound : ℕ) (history : List Call) (hit : ℕ) : Type 0 where
+  pub key : List ℕ
+  pub value : List ℕ
+  pub moment : ℕ
+  pub is : IsHit history hit key value moment
+  pub late : bound ≤ end_at history hit
+
+-- the positions of all calls but for recent hits, in order: what the others read started before the stamp
+abbrev pub ArePast : ℕ → List Call → List ℕ → Type 0
+ArePast bound history kept = AreAllBelow (λ position. ¬ IsRecent bound history position) (length history) kept
+
+-- calls are acceptable without recent hits and what comes later, if they are so with both
+abbrev pub PastStands : Type 0
+PastStands =
+    (bound : ℕ) (history later : List Call) (kept : List ℕ)
+    → ArePast bound history kept
+    → StartFrom bound later
+    → Acceptable (history ++ later)
+    → Acceptable (in_order history kept)
+
+-- if what is judged with the last piece is not acceptable without recent hits, then all calls of all pieces are not, with the puts that were added, whatever comes later
+abbrev pub PiecesExclude : Type 0
+PiecesExclude =
+    (length_of bound : ℕ) (warm : Bool) (last : Piece) (earlier : List Piece) (past : List ℕ)
+    → ArePieces length_of warm (last ∷ earlier)
+    → last.bound ≤ bound
+    → ArePast bound (judged_in last) past
+    → ¬ Acceptable (in_order (judged_in last) past)
+    → (later : List Call)
+    → StartFrom bound later
+    → ¬ Acceptable (all_in (last ∷ earlier) ++ later)

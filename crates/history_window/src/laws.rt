@@ -1,6 +1,6 @@
 // Laws of windows.
 ghost use Rattle.history_window.specs.Laws.{ForgettingGoesOn, LinesAreAcceptable, StandingChains, StandingGrows, UnsettledStand, WarmingFollows, WindowStands};
-ghost use Rattle.history_window.specs.Streams.{PiecesStand};
+ghost use Rattle.history_window.specs.Streams.{PastStands, PiecesExclude, PiecesStand};
 
 use certificate_finder::sorted_spots_are_accepted;
 
@@ -55,4 +55,19 @@ pub fn pieces_stand()
 {
     forgetting_goes_on();
     warming_follows();
+}
+
+/// Calls are acceptable without recent hits and what comes later, if they are so with both.
+pub fn past_stands()
+    ensures { PastStands }
+{}
+
+/// If what is judged with the last piece is not acceptable without recent hits, then all calls of all pieces are not, whatever comes
+/// later.
+pub fn pieces_exclude()
+    ensures { PiecesExclude }
+{
+    forgetting_goes_on();
+    warming_follows();
+    past_stands();
 }

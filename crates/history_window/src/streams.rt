@@ -1,11 +1,17 @@
 // What is told of the calls of a stream.
-ghost use Rattle.std.specs.Prelude.{◌≡◌, ◌<◌, ◌==◌, if◌then◌else◌, max, IfNone, IfSome, IsSomeAnd, slice_get, take};
+ghost use Rattle.std.specs.Prelude.{◌≡◌, ◌<◌, ◌==◌, if◌then◌else◌, max, ◌^◌, ◌&&◌, nat_le, IfNone, IfOk, IfSome, IsSomeAnd, length, slice_get, take};
 ghost use Rattle.record_pages.specs.Expiry.{never};
+ghost use Rattle.trace_file.specs.Lent.{act_shown};
+ghost use Rattle.history_window.specs.Acts.{is_reading};
 ghost use Rattle.history_window.specs.Standing.{StartFrom};
-ghost use Rattle.history_window.specs.Streams.{last_end};
+ghost use Rattle.history_window.specs.Streams.{ArePast, last_end};
 
+use crate::settling::list_position;
+use crate::states::is_hit;
+use certificate_finder::MAX_CALLS;
 use record_pages::NEVER;
-use trace_file::History;
+use std::alloc::{AllocError, Global};
+use trace_file::{CallRef, History};
 
 /// The position of the first call that starts before a stamp, if there is one.
 pub fn first_before(history: &History, bound: u64) -> Option<usize>
@@ -41,4 +47,27 @@ fn later_end(latest: u64, end: u64) -> u64
     } else {
         end
     }
+}
+
+/// The positions of all calls of a history but for the hits that ended at a stamp or later, in order. `AllocError` comes if memory was
+/// refused, and if there are more than `MAX_CALLS` calls.
+pub fn past(alloc: Global, history: &History, bound: u64) -> Result<Vec<u32>, AllocError>
+    ensures { IfOk result (λ kept. ArePast bound history.now kept.items) }
+{
+    if history.len() > MAX_CALLS {
+        return Err(AllocError);
+    }
+    let mut kept = Vec::new(alloc);
+    for position in 0..history.len() {
+        let stays = !is_recent(&history.at(position), bound);
+        list_position(&mut kept, position as u32, stays)?;
+    }
+    Ok(kept)
+}
+
+/// Whether a call is a hit that ended at a stamp or later.
+fn is_recent(call: &CallRef<'_>, bound: u64) -> bool
+    ensures { result ≡ (is_reading (act_shown call.now.act) && nat_le bound call.now.end) }
+{
+    is_hit(&call.act) && bound <= call.end
 }
