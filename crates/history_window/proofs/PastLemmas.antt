@@ -48,8 +48,8 @@ module _ (bound : ℕ) (history later : List Call) (kept : List ℕ) (past : Are
         | inl less ↦
             let put_here = at_history history later r.put r.call less put_at in
             holds_kept history later IsPast kept past r.put less (λ recent.
-              let mine = same_Some recent.is.call r.call (sym recent.is.at ∙ put_here) in
-              no_write r.call.act recent.value recent.moment (ap (λ (c : Call). c.act) (sym mine) ∙ recent.is.is) (put_writes r.call.act value r.expires r.is))
+            let mine = same_Some recent.is.call r.call (sym recent.is.at ∙ put_here) in
+            no_write r.call.act recent.value recent.moment (ap (λ (c : Call). c.act) (sym mine) ∙ recent.is.is) (put_writes r.call.act value r.expires r.is))
         | inr enough ↦ absurd (elim (cases_lt call.end bound) [
           | inl over ↦
               let from : bound ≤ r.call.start = all_member (λ (c : Call). bound ≤ c.start) later r.call late (in_later history later r.put r.call enough put_at) in
@@ -64,8 +64,8 @@ module _ (bound : ℕ) (history later : List Call) (kept : List ℕ) (past : Are
   past_acceptable a =
       let shown = shown_acceptable (history ++ later) [] (λ p. Member p kept) kept among
       (λ line once each agrees intervals hit call value moment placed found is r.
-        member_left kept (run (length (history ++ later)) (length {A = Call} [])) r.put
-        (read_kept line hit call value moment agrees (elim (member_either kept (run (length (history ++ later)) (length {A = Call} [])) hit placed) [ inl m ↦ m | inr none ↦ absurd none ]) found is r))
+      member_left kept (run (length (history ++ later)) (length {A = Call} [])) r.put
+      (read_kept line hit call value moment agrees (elim (member_either kept (run (length (history ++ later)) (length {A = Call} [])) hit placed) [ inl m ↦ m | inr none ↦ absurd none ]) found is r))
       (subst Acceptable (sym (append-nil (history ++ later))) a) in
       subst Acceptable (append-nil (in_order (history ++ later) kept) ∙ same_picks history later kept (kept_below history later IsPast kept past)) shown
 

@@ -43,18 +43,21 @@ puts_follow warming bound false kept calls lines puts put_lines past from are = 
 -- ---- what is kept
 
 no_calls : Acceptable []
-no_calls = ([], record {
-  intervals = λ k d less. absurd (omega (arith, less));
-  spelled = record {
-    positions = λ k d less. absurd (omega (arith, less));
-    each = λ p less. absurd (omega (arith, less));
-    once = λ i j d less past. absurd (omega (arith, past));
-  };
-  agrees = λ i j d less past. absurd (omega (arith, past));
-  lawful = λ before after deed value moment split is.
-      let long = ap length split ∙ length-append before (deed ∷ after) in
-      absurd (omega (arith, long));
-})
+no_calls = (
+  [],
+  record {
+    intervals = λ k d less. absurd (omega (arith, less));
+    spelled = record {
+      positions = λ k d less. absurd (omega (arith, less));
+      each = λ p less. absurd (omega (arith, less));
+      once = λ i j d less past. absurd (omega (arith, past));
+    };
+    agrees = λ i j d less past. absurd (omega (arith, past));
+    lawful = λ before after deed value moment split is.
+        let long = ap length split ∙ length-append before (deed ∷ after) in
+        absurd (omega (arith, long));
+  },
+)
 
 nothing_stands : (bound : ℕ) → StandFor bound [] []
 nothing_stands bound = record {

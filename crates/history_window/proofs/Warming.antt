@@ -35,11 +35,11 @@ put_follows bound kept more p call past from warm at =
       | inr enough ↦ all_member (λ (c : Call). bound ≤ c.start) more warm.unput.call from (in_later kept more p warm.unput.call enough warm.unput.at)
     ] in
     member_all (λ (c : Call). Writes (deed_of c) call.key → bound ≤ c.end) kept (λ c m writes.
-        let not = all_member (λ other. Writes (deed_of other) warm.unput.call.key → ¬ Precedes other warm.unput.call) (kept ++ more) c warm.unwritten (member_left kept more c m) (subst (Writes (deed_of c)) keys writes) in
-        elim (cases_lt c.end warm.unput.call.start) [
-          | inl before ↦ absurd (not before)
-          | inr after ↦ omega (arith, starts, after)
-        ])
+    let not = all_member (λ other. Writes (deed_of other) warm.unput.call.key → ¬ Precedes other warm.unput.call) (kept ++ more) c warm.unwritten (member_left kept more c m) (subst (Writes (deed_of c)) keys writes) in
+    elim (cases_lt c.end warm.unput.call.start) [
+      | inl before ↦ absurd (not before)
+      | inr after ↦ omega (arith, starts, after)
+    ])
 
 pub follows : WarmingFollows
 follows bound kept more warm past from is = member_all (MayFollow bound kept) (more ++ warm_puts (kept ++ more) warm.hits.items) (λ call m. elim (member_either more (warm_puts (kept ++ more) warm.hits.items) call m) [

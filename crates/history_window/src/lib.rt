@@ -18,8 +18,8 @@ mod tables;
 mod windowing;
 
 pub use laws::{
-    forgetting_goes_on, lines_are_acceptable, past_stands, pieces_exclude, pieces_stand, standing_chains, standing_grows, unsettled_stand,
-    warming_follows, window_stands,
+    forgetting_goes_on, lines_are_acceptable, past_stands, pieces_exclude, pieces_stand,
+    standing_chains, standing_grows, unsettled_stand, warming_follows, window_stands,
 };
 pub use settling::unsettled;
 pub use streams::{first_before, last_end, past};

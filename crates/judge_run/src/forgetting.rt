@@ -1,11 +1,13 @@
 // What of a text is kept once it is accepted.
 ghost use Rattle.std.specs.Prelude.{◌≡◌, ◌≤◌, All, IfOk, length};
+ghost use Rattle.certificate_checker.specs.Orders.{in_order};
 ghost use Rattle.history_window.specs.Streams.{IsKept};
 
 use history_text::TextHistory;
 use history_window::{unsettled, window};
 use std::alloc::{AllocError, Global};
 use std::hash::BuildHasher;
+use trace_file::History;
 
 /// What is kept of a text at a stamp: the window of its calls, without settled hits. No call may end before it starts.
 pub(crate) fn kept_of<S: BuildHasher + Copy + Drop>(
@@ -24,4 +26,22 @@ pub(crate) fn kept_of<S: BuildHasher + Copy + Drop>(
     let left = unsettled(alloc, hash_builder, &kept.history, bound)?;
     kept.keep(alloc, &left)?;
     Ok(kept)
+}
+
+/// The calls at these positions, copied in their order.
+pub(crate) fn calls_at(
+    alloc: Global,
+    history: &History,
+    positions: &[u32],
+) -> Result<History, AllocError>
+    ensures { IfOk result (λ calls. calls ≡ in_order history.now positions.now) }
+{
+    let mut calls = History::new(alloc);
+    for place in 0..positions.len() {
+        let position = positions[place] as usize;
+        if position < history.len() {
+            calls.push_ref(&history.at(position))?;
+        }
+    }
+    Ok(calls)
 }

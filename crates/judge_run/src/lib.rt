@@ -20,6 +20,7 @@ mod from_start;
 mod inputs;
 mod judge_end;
 mod judge_report;
+mod judged_piece;
 mod judged_text;
 mod judging_text;
 mod judging_texts;

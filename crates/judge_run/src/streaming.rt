@@ -7,9 +7,10 @@ ghost use Rattle.judge_run.specs.Listing.{IsListed};
 ghost use Rattle.judge_run.specs.Streams.{IsStreamFault, IsStreamed};
 
 use crate::extent::Extent;
-use crate::forgetting::kept_of;
+use crate::forgetting::{calls_at, kept_of};
 use crate::forgotten::Forgotten;
 use crate::judging_text::counted;
+use crate::judged_piece::JudgedPiece;
 use crate::judged_text::JudgedText;
 use crate::kind_counts::{counts_of, grown};
 use crate::listing::faults_of;
@@ -22,6 +23,7 @@ use crate::warmed_text::WarmedText;
 use crate::warming::warmed_if;
 use certificate_finder::{Found, find_with_hasher};
 use history_text::{ReadTextFault, TextHistory, TextReader};
+use history_window::past;
 use std::alloc::{AllocError, Global};
 use std::hash::BuildHasher;
 use std::io::Read;
@@ -88,12 +90,41 @@ fn judge_piece<S: BuildHasher + Copy + Drop>(
     } = taken;
     let warm = warmed_if(alloc, hash_builder, text, scope.warm)?;
     let found = find_with_hasher(alloc, hash_builder, &warm.text.history)?;
-    if !over && is_accepted(&found) {
-        return match go_on(alloc, hash_builder, window, warm, latest, forgotten) {
+    let judged = JudgedPiece {
+        warm,
+        latest,
+        forgotten,
+        skipped,
+    };
+    if over {
+        return over_with(alloc, hash_builder, judged, found);
+    }
+    let bound = latest.saturating_sub(window);
+    match found {
+        Found::Accepted(_) => match go_on(alloc, hash_builder, judged, bound) {
             Ok(stream) => Ok(PieceEnd::On(stream)),
             Err(refused) => Err(refused),
-        };
+        },
+        Found::Rejected(_) => without_recent(alloc, hash_builder, judged, bound),
+        Found::Undecided(hits) => {
+            over_with(alloc, hash_builder, judged, Found::Undecided(hits))
+        }
     }
+}
+
+/// The answer, by what was found for the calls that were judged.
+fn over_with<S: BuildHasher + Copy + Drop>(
+    alloc: Global,
+    hash_builder: S,
+    judged: JudgedPiece<S>,
+    found: Found,
+) -> Result<PieceEnd<S>, AllocError> {
+    let JudgedPiece {
+        warm,
+        latest: _,
+        forgotten,
+        skipped,
+    } = judged;
     let WarmedText { text, from_start } = warm;
     let faults = faults_of(alloc, hash_builder, &text.history, &found)?;
     let extent = Extent {
@@ -109,6 +140,51 @@ fn judge_piece<S: BuildHasher + Copy + Drop>(
     }))
 }
 
+/// What comes of calls that are not accepted. A recent hit, one that ended at the stamp or later, may have read a put that is still to
+/// come. So they are judged once more without such hits: if they are accepted then, all is kept, and the next piece is read.
+fn without_recent<S: BuildHasher + Copy + Drop>(
+    alloc: Global,
+    hash_builder: S,
+    judged: JudgedPiece<S>,
+    bound: u64,
+) -> Result<PieceEnd<S>, AllocError> {
+    let old = past(alloc, &judged.warm.text.history, bound)?;
+    let calls = calls_at(alloc, &judged.warm.text.history, &old)?;
+    let found = find_with_hasher(alloc, hash_builder, &calls)?;
+    if is_accepted(&found) {
+        return Ok(PieceEnd::On(unwarmed(judged, bound)));
+    }
+    let mut judged = judged;
+    judged.warm.text.keep(alloc, &old)?;
+    over_with(alloc, hash_builder, judged, found)
+}
+
+/// The calls that were judged, without the puts that were added. Nothing is forgotten.
+fn unwarmed<S: BuildHasher>(judged: JudgedPiece<S>, bound: u64) -> Stream<S> {
+    let JudgedPiece {
+        warm,
+        latest,
+        forgotten,
+        skipped: _,
+    } = judged;
+    let WarmedText {
+        mut text,
+        from_start,
+    } = warm;
+    if let Some(added) = from_start {
+        for _ in 0..added {
+            text.history.drop_last();
+            let _line = text.lines.pop();
+        }
+    }
+    Stream {
+        text,
+        bound,
+        latest,
+        forgotten,
+    }
+}
+
 /// Whether a certificate was found.
 fn is_accepted(found: &Found) -> bool {
     match found {
@@ -122,13 +198,16 @@ fn is_accepted(found: &Found) -> bool {
 fn go_on<S: BuildHasher + Copy + Drop>(
     alloc: Global,
     hash_builder: S,
-    window: u64,
-    warm: WarmedText<S>,
-    latest: u64,
-    forgotten: Forgotten,
+    judged: JudgedPiece<S>,
+    bound: u64,
 ) -> Result<Stream<S>, AllocError> {
+    let JudgedPiece {
+        warm,
+        latest,
+        forgotten,
+        skipped: _,
+    } = judged;
     let WarmedText { text, from_start } = warm;
-    let bound = latest.saturating_sub(window);
     let before = counts_of(&text.history);
     let text = kept_of(alloc, hash_builder, text, bound)?;
     let after = counts_of(&text.history);
