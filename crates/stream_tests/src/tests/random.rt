@@ -14,12 +14,13 @@ fn draw(seed: &mut u64, below: u64) -> u64
 }
 
 
-/// Appends the line of a call of a key that does what a right cache does, or in one of 24 cases reads what may be replaced.
+/// Appends the line of a call that does what a right cache does, or now and then reads a wrong value.
 fn push_call(
     alloc: Global,
     text: &mut String,
     seed: &mut u64,
     values: &mut Vec<u64>,
+    wrong: u64,
     start: u64,
 ) -> Result<(), AllocError> {
     let key = draw(seed, 3);
@@ -38,7 +39,7 @@ fn push_call(
         }
         _ => {
             let right = values[place];
-            let value = if draw(seed, 40) == 0 { 1 + draw(seed, 12) } else { right };
+            let value = if draw(seed, 40) == 0 { wrong + draw(seed, 12) } else { right };
             if value == 0 {
                 format!(in alloc; "a {start} {end} miss k{key}\n")?
             } else {
@@ -53,11 +54,12 @@ fn push_call(
 fn random_text(alloc: Global, seed: &mut u64, warm: bool) -> Result<String, AllocError> {
     let mut text = String::new(alloc);
     let first = if warm { 20 } else { 0 };
+    let wrong = if warm { 30 } else { 1 };
     let mut values = vec![in alloc; first, first, first]?;
     let mut start = 1;
     for _ in 0..draw(seed, 60) {
         start += draw(seed, 6);
-        push_call(alloc, &mut text, seed, &mut values, start)?;
+        push_call(alloc, &mut text, seed, &mut values, wrong, start)?;
     }
     Ok(text)
 }
@@ -74,7 +76,7 @@ fn streams_are_judged_as_wholes(rt: HostRuntime) -> Result<(), Fail> {
     let mut rejected = 0;
     let mut undecided = 0;
     let mut apart = 0;
-    for round in 0..3000u64 {
+    for round in 0..300u64 {
         let warm = round % 2 == 1;
         let text = random_text(rt.alloc(), &mut seed, warm)?;
         let scope = scope(warm, 0);
@@ -91,6 +93,6 @@ fn streams_are_judged_as_wholes(rt: HostRuntime) -> Result<(), Fail> {
             _ => undecided += 1,
         }
     }
-    assert!(rt; accepted > 300 && rejected > 300, "{accepted} {rejected} {undecided} {apart}");
+    assert!(rt; accepted > 60 && rejected > 30, "{accepted} {rejected} {undecided} {apart}");
     Ok(())
 }
