@@ -1,5 +1,5 @@
 -- What stands for a history, as both grow.
-use Rattle.std.proofs.Common.{◌≡◌, ◌≢◌, ℕ, ◌<◌, ◌≤◌, Some, List, ◌++◌, length, sym, ◌∙◌, subst, arith, inl, inr, ◌⊎◌, append_assoc, append-nil, []}
+use Rattle.std.proofs.Common.{◌≡◌, ℕ, ◌<◌, ◌≤◌, Some, List, ◌++◌, length, sym, ◌∙◌, subst, arith, inl, inr, append_assoc, append-nil, []}
 use Rattle.std.specs.Prelude.{◌↔◌, All, slice_get}
 use Rattle.std.proofs.lemmas.Bool.{cases_eq}
 use Rattle.std.proofs.lemmas.Option.{slice_get_within}
@@ -11,7 +11,7 @@ use Rattle.certificate_checker.proofs.public_laws.Listing.{Member, all_member, m
 use Rattle.history_window.specs.Laws.{ForgettingGoesOn, LinesAreAcceptable, StandingChains, StandingGrows, UnsettledStand, WindowStands}
 use Rattle.history_window.specs.Settled.{AreUnsettled, IsSettledHit}
 use Rattle.history_window.specs.Standing.{Acceptable, IsUnwritten, MayFollow, StandFor}
-use Rattle.history_window.specs.Windows.{IsBefore, IsLastCut, IsWindow, ReadsLate, Stays}
+use Rattle.history_window.specs.Windows.{IsLastCut, IsWindow, Stays}
 use Rattle.history_window.proofs.CallLemmas.{end_is, write_is_no_miss}
 use Rattle.history_window.proofs.Dropping.{kept_acceptable}
 use Rattle.history_window.proofs.Forgetting.{whole_acceptable}

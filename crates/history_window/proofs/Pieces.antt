@@ -1,18 +1,13 @@
 -- What is kept of the pieces of a stream stands for them.
-use Rattle.std.proofs.Common.{◌≡◌, ℕ, ◌<◌, ◌≤◌, ◌-◌, ◌==◌, max, Bool, true, false, cond, List, [], ◌∷◌, ◌++◌, length, refl, sym, ap, ◌∙◌, subst, arith, inl, inr, append-nil, append_assoc}
+use Rattle.std.proofs.Common.{◌≡◌, ℕ, ◌≤◌, ◌-◌, ◌==◌, max, Bool, true, false, cond, List, [], ◌∷◌, ◌++◌, length, sym, ap, ◌∙◌, subst, arith, inl, append-nil, append_assoc}
 use Rattle.std.specs.Prelude.{◌↔◌, All}
-use Rattle.std.specs.List.{fold}
 use Rattle.std.proofs.lemmas.List.{length-append}
 use Rattle.std.proofs.lemmas.List.Elements.{All-append}
 use Rattle.std.proofs.lemmas.List.Sums.{fold-append}
 use Rattle.std.proofs.Math.Nat.{le-max_left}
 use Rattle.record_pages.specs.Expiry.{never}
 use Rattle.trace_file.specs.declared.call.Call.{Call}
-use Rattle.certificate_checker.specs.Deeds.{deed_of}
-use Rattle.certificate_checker.specs.Latest.{Writes}
-use Rattle.certificate_checker.specs.Orders.{in_order}
 use Rattle.certificate_checker.proofs.public_laws.Listing.{all_member, member_all}
-use Rattle.certificate_finder.specs.Warming.{warm_puts}
 use Rattle.history_window.specs.Laws.{ForgettingGoesOn, WarmingFollows}
 use Rattle.history_window.specs.Standing.{Acceptable, MayFollow, StandFor, StartFrom}
 use Rattle.history_window.specs.Streams.{ArePieces, ArePuts, ComesAfter, IsKept, IsKeptAfter, Piece, PastStands, PiecesExclude, PiecesStand, all_in, calls_in, judged_in, judged_lines, last_end, later_end}

@@ -1,18 +1,18 @@
 -- The puts that warming adds may follow what is kept.
 use Rattle.std.proofs.Common.{◌≡◌, ◌≢◌, ℕ, ◌<◌, ◌≤◌, Some, List, ◌++◌, length, sym, ap, ◌∙◌, subst, arith, inl, inr}
-use Rattle.std.specs.Prelude.{All, map, slice_get}
+use Rattle.std.specs.Prelude.{All, slice_get}
 use Rattle.std.specs.List.{filter_map}
 use Rattle.std.proofs.lemmas.Bool.{cases_lt}
-use Rattle.std.proofs.lemmas.Option.{same_Some, slice_get_within}
+use Rattle.std.proofs.lemmas.Option.{same_Some}
 use Rattle.trace_file.specs.declared.call.Call.{Call}
 use Rattle.certificate_checker.specs.Deeds.{deed_of}
 use Rattle.certificate_checker.specs.Latest.{Writes}
 use Rattle.certificate_checker.specs.Orders.{Precedes}
-use Rattle.certificate_checker.proofs.public_laws.Listing.{Member, all_member, member_all, member_at, member_contained, member_either, member_left, member_map, member_picked, pairs_from}
-use Rattle.certificate_finder.specs.Warming.{IsUnput, IsWarm, IsWarmed, PutsAt, warm_put, warm_puts}
+use Rattle.certificate_checker.proofs.public_laws.Listing.{all_member, member_all, member_at, member_contained, member_either, member_left, member_map, member_picked, pairs_from}
+use Rattle.certificate_finder.specs.Warming.{IsUnput, IsWarm, PutsAt, warm_put, warm_puts}
 use Rattle.history_window.specs.Laws.{WarmingFollows}
 use Rattle.history_window.specs.Standing.{Acceptable, IsUnwritten, MayFollow}
-use Rattle.history_window.proofs.Keeping.{at_history, at_whole, in_later}
+use Rattle.history_window.proofs.Keeping.{at_history, in_later}
 use Rattle.history_window.proofs.Lining.{lawful_to}
 
 -- no hit of acceptable calls reads what nobody put

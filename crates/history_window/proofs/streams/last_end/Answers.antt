@@ -1,4 +1,4 @@
-use Rattle.std.proofs.Common.{◌≡◌, ◌∙◌, ◌∷◌, [], ap, sym, take, fold}
+use Rattle.std.proofs.Common.{◌∙◌, ◌∷◌, [], ap, sym, take}
 use Rattle.std.proofs.lemmas.List.Sums.{fold-append}
 use Rattle.certificate_checker.proofs.public_laws.Lookups.{take_next}
 use Rattle.trace_file.specs.Lent.{call_shown}
