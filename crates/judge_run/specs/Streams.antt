@@ -110,7 +110,7 @@ pub record IsBefore (scope : Scope) (window : ℕ) (known left : Option (List �
   pub first : StartFrom (last_end 0 (calls_in pieces) - window) (take place calls)
   pub line_is : slice_get lines place ≡ Some line
 
--- why a stream is not judged: a line is bad, or its call starts too early; or the reader or memory refused something
+-- why a stream is not judged: a line is bad, or its call starts too early; or the reader or memory refused something. Open: nothing is said of when there are too many calls, which is if what is kept and the piece would have more than 268,435,456
 abbrev pub IsStreamFault : Scope → ℕ → Option (List ℕ) → ReadTextFault → Type 0
 IsStreamFault scope window known (Bad bad) =
     IfSome known (λ bytes. (bad.cause ≢ TooManyCalls → calls_of scope.reading bytes ≡ Err bad) ⊎ ((bad.cause ≡ BeforeWindow) × (left : Option (List ℕ)) × IsBefore scope window known left bad.number))
