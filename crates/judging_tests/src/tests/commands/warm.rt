@@ -18,8 +18,8 @@ struct Case {
 
 /// Values that were there from the start are taken as such.
 const WARM: Scope = Scope {
-    skew: 0,
     warm: true,
+    ..Scope::WHOLE
 };
 
 /// All faults, and why.
@@ -107,10 +107,7 @@ const CASES: [Case; 7] = [
     },
     Case {
         text: "a 5 6 remove k\nb 8 9 hit k v\n",
-        scope: Scope {
-            skew: 1,
-            warm: true,
-        },
+        scope: Scope { skew: 1, ..WARM },
         form: Form::Lines,
         detail: Detail::NONE,
         least: 0,
