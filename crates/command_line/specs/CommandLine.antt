@@ -1,9 +1,10 @@
 -- The program's command line: what it takes, and what its words ask for.
-use Rattle.std.specs.Prelude.{◌≡◌, ◌≢◌, ◌⊎◌, ◌&&◌, ◌||◌, ◌==◌, ℕ, Bool, List, [], ◌∷◌, Option, Some, None, codes, fold, is_some, map, nat_le, nat_lt, not, option_and_then, option_map, string_bytes, true, false, unwrap_or, if◌then◌else◌}
+use Rattle.std.specs.Prelude.{◌≡◌, ◌≢◌, ◌⊎◌, ◌&&◌, ◌||◌, ◌==◌, ℕ, Bool, List, [], ◌∷◌, Option, Some, None, codes, count_by, fold, is_some, length, map, nat_le, nat_lt, not, option_and_then, option_map, string_bytes, true, false, unwrap_or, if◌then◌else◌}
 use Rattle.std.specs.List.{after_first, before_first, find, list_all}
 use Rattle.std.specs.Option.{option_map_or}
 use Rattle.std.specs.Str.{bytes_eq}
-use Rattle.clap.specs.Words.{App, IsAmong, Kinds, Row, Rule, Text, first_of, new_app, new_rule, subcommand_of, with_rule, with_subcommand}
+use Rattle.clap.specs.Lexer.{usize_max}
+use Rattle.clap.specs.Words.{App, IsAmong, Kinds, Row, Rule, Text, all_of, first_of, new_app, new_rule, subcommand_of, with_rule, with_subcommand}
 use Rattle.clap.specs.declared.builder.action.ArgAction.TheVariants.{SetTrue}
 use Rattle.clap.specs.declared.error.kind.ErrorKind.{ErrorKind}
 use Rattle.clap.specs.declared.error.kind.ErrorKind.TheVariants.{DisplayHelp, DisplayVersion}
@@ -25,6 +26,10 @@ use Rattle.command_line.specs.declared.line_fault.LineFault.TheVariants.{Usage, 
 -- the file that is to be checked
 abbrev pub file_rule : Rule
 file_rule = record (new_rule (codes "FILE")) { required = true }
+
+-- the files that are to be judged, one at least
+abbrev pub files_rule : Rule
+files_rule = record (new_rule (codes "FILE")) { range = Some (record { start_inclusive = 1; end_inclusive = usize_max }); required = true }
 
 -- the option of a setting: its name, and one value
 abbrev pub option_rule : Setting → Rule
@@ -98,13 +103,13 @@ skip_rule = record (new_rule (codes "skip-bad")) { long = Some (codes "skip-bad"
 abbrev pub key_rule : Rule
 key_rule = record (new_rule (codes "key")) { long = Some (codes "key"); value_names = 1 }
 
--- a command that judges the history in a file, with two flags and an option
+-- a command that judges a history, with two flags and an option
 abbrev pub with_history : App → App
-with_history app = with_rule (with_rule (with_rule (with_rule app file_rule) explain_rule) json_rule) picture_rule
+with_history app = with_rule (with_rule (with_rule app explain_rule) json_rule) picture_rule
 
 -- check FILE, with two flags and an option
 abbrev pub check_command : App
-check_command = with_history (new_app (codes "check"))
+check_command = with_history (with_rule (new_app (codes "check")) file_rule)
 
 -- a command with a flag for all faults, and options for the trace and the JUnit file that are to be written
 abbrev pub with_listing : App → App
@@ -118,9 +123,9 @@ with_scope app = with_rule (with_rule (with_rule app least_rule) skew_rule) warm
 abbrev pub with_reading : App → App
 with_reading app = with_rule (with_rule app keys_rule) skip_rule
 
--- judge FILE, with five flags and six options
+-- judge FILE.., with five flags and six options
 abbrev pub judge_command : App
-judge_command = with_reading (with_scope (with_listing (with_history (new_app (codes "judge")))))
+judge_command = with_reading (with_scope (with_listing (with_history (with_rule (new_app (codes "judge")) files_rule))))
 
 -- show FILE, with an option
 abbrev pub show_command : App
@@ -162,12 +167,13 @@ program = with_loads (with_judging scripts_program)
 
 -- ---- what its words ask for
 
--- a history that is to be judged: its file; whether it is said why it is rejected, whether all its faults are listed, and whether that
+-- a history that is to be judged: its file, and those of further ones; whether it is said why it is rejected, whether all its faults are listed, and whether that
 -- is told as a JSON object; the files that a picture of why it is rejected is drawn to, that it is written to as a trace, and that what
 -- came of it is written to as JUnit has it, if they are named; how many calls it has to have if it is accepted; by how much its stamps may differ from the truth;
 -- whether values may have been there from the start; which keys' calls are judged; and whether bad lines are passed over
 pub record Judging : Type 0 where
   pub file : Text
+  pub others : List Text
   pub explain : Bool
   pub all : Bool
   pub json : Bool
@@ -200,6 +206,7 @@ wanted_of Script = Replies
 wanted_of (Check request) = Checked request.file request.explain request.json request.picture
 wanted_of (Judge request) = Judged (record {
   file = request.file;
+  others = request.others.items;
   explain = request.detail.explain;
   all = request.detail.all;
   json = request.json;
@@ -262,10 +269,23 @@ share_given (Some text) = share_in text
 abbrev pub share_found : List Row → Option Share
 share_found rows = share_given (first_of (codes "keys") rows)
 
--- the judging that was found of the history in a file, of which an accepted one has to have so many calls, with stamps that may differ by so much, of a share of keys
-abbrev pub judging_of : List Row → ℕ → ℕ → Share → Text → Judging
-judging_of rows least skew share file = record {
+-- a file name that means the standard input
+abbrev pub is_input : Text → Bool
+is_input file = bytes_eq file (codes "-")
+
+-- a file is to be written beside the verdict
+abbrev pub has_output : List Row → Bool
+has_output rows = is_some (first_of (codes "trace") rows) || (is_some (first_of (codes "picture") rows) || is_some (first_of (codes "junit") rows))
+
+-- these files can be judged in turn: the standard input is one of them once at most, and if there are several, no file is to be written beside the verdicts
+abbrev pub can_follow : List Row → List Text → Bool
+can_follow rows files = nat_le (count_by is_input files) 1 && not (nat_lt 1 (length files) && has_output rows)
+
+-- the judging that was found of the history in a file, and of those in others, of which an accepted one has to have so many calls, with stamps that may differ by so much, of a share of keys
+abbrev pub judging_of : List Row → ℕ → ℕ → Share → Text → List Text → Judging
+judging_of rows least skew share file others = record {
   file = file;
+  others = others;
   explain = is_on (codes "explain") rows;
   all = is_on (codes "all") rows;
   json = is_on (codes "json") rows;
@@ -279,8 +299,14 @@ judging_of rows least skew share file = record {
   skip_bad = is_on (codes "skip-bad") rows;
 }
 
+-- what is asked of these files
+abbrev pub judge_wanted_on : List Row → ℕ → ℕ → Share → List Text → Option Wanted
+judge_wanted_on rows least skew share [] = None
+judge_wanted_on rows least skew share (file ∷ others) = if can_follow rows (file ∷ others) then Some (Judged (judging_of rows least skew share file others)) else None
+
+-- what is asked of the files that were found
 abbrev pub judge_wanted_of : List Row → ℕ → ℕ → Share → Option Wanted
-judge_wanted_of rows least skew share = option_map (λ file. Judged (judging_of rows least skew share file)) (first_of (codes "FILE") rows)
+judge_wanted_of rows least skew share = option_and_then (judge_wanted_on rows least skew share) (all_of (codes "FILE") rows)
 
 -- the same, by the share of keys that was found
 abbrev pub judge_wanted_in : List Row → ℕ → ℕ → Option Wanted

@@ -1,14 +1,15 @@
 // What was found for the arguments of a subcommand that reads a file.
 ghost use Rattle.std.specs.Prelude.{◌≡◌, ◌||◌, nat_lt, IfOk, IfErr, IsSome, Some, codes, is_some, option_map, string_bytes};
 ghost use Rattle.clap.specs.Words.{first_of, found_of, rows_of};
-ghost use Rattle.command_line.specs.CommandLine.{check_wanted, is_on, judge_wanted, judge_wanted_by, judge_wanted_in, judge_wanted_of, judge_wanted_with, number_found_to, number_to, share_found, share_in, show_wanted, wanted_of, IsUsage};
+ghost use Rattle.command_line.specs.CommandLine.{check_wanted, is_on, judge_wanted, judge_wanted_by, judge_wanted_in, judge_wanted_with, number_found_to, number_to, share_found, share_in, show_wanted, wanted_of, IsUsage};
 
+use crate::asked_judging::judging_line;
 use crate::line::Line;
 use crate::line_fault::LineFault;
 use crate::telling::{no_file, no_number_to, no_share, not_with_trace};
 use clap::ArgMatches;
-use history_text::{Reading, Share};
-use judge_run::{CheckRequest, Detail, JudgeRequest, Scope, ShowRequest};
+use history_text::Share;
+use judge_run::{CheckRequest, ShowRequest};
 use std::alloc::{AllocError, Global};
 use trace_file::FileName;
 
@@ -251,49 +252,6 @@ fn has_trace<'a>(found: &ArgMatches<'a>) -> bool
         Some(_) => true,
         None => false,
     }
-}
-
-/// The same, if the options may stand together.
-fn judging_line<'a>(
-    alloc: Global,
-    found: &ArgMatches<'a>,
-    at_least: u64,
-    skew: u64,
-    share: Share,
-) -> Result<Line, LineFault>
-    ensures named { IfOk result (λ line.
-        judge_wanted_of (rows_of (found_of found.now)) at_least skew share ≡ Some (wanted_of line)) }
-    ensures refused { IfErr result (λ fault. IsUsage fault) }
-    ensures taken { IsSome (judge_wanted_of (rows_of (found_of found.now)) at_least skew share)
-        → IfErr result (λ fault. fault ≡ LineFault.OutOfMemory) }
-{
-    let Some(file) = found.get_str("FILE") else {
-        return Err(no_file(alloc, "judge"));
-    };
-    let file = FileName::new(alloc, file)?;
-    let explain = is_on(found, "explain");
-    let all = is_on(found, "all");
-    let json = is_on(found, "json");
-    let picture = file_found(alloc, found, "picture")?;
-    let trace = file_found(alloc, found, "trace")?;
-    let junit = file_found(alloc, found, "junit")?;
-    let warm = is_on(found, "warm");
-    let skip_bad = is_on(found, "skip-bad");
-    let reading = Reading { share, skip_bad };
-    Ok(Line::Judge(JudgeRequest {
-        file,
-        detail: Detail { explain, all },
-        json,
-        picture,
-        trace,
-        junit,
-        at_least,
-        scope: Scope {
-            skew,
-            warm,
-            reading,
-        },
-    }))
 }
 
 /// What `show` asks for.

@@ -1,7 +1,7 @@
 // The program's command line, as `clap` reads it.
 ghost use Rattle.std.specs.Prelude.{◌≡◌, IfOk, false};
 ghost use Rattle.clap.specs.Words.{app_of, new_app, rule_of};
-ghost use Rattle.command_line.specs.CommandLine.{all_rule, check_command, device_rule, explain_rule, file_rule, json_rule, judge_command, junit_rule, key_rule, keys_rule, least_rule, option_rule, out_rule, picture_rule, program, run_command, script_command, scripts_program, serve_command, show_command, size_rule, skew_rule, skip_rule, trace_rule, warm_rule, with_history, with_judging, with_listing, with_loads, with_reading, with_scope, zipf_rule};
+ghost use Rattle.command_line.specs.CommandLine.{all_rule, check_command, device_rule, explain_rule, file_rule, files_rule, json_rule, judge_command, junit_rule, key_rule, keys_rule, least_rule, option_rule, out_rule, picture_rule, program, run_command, script_command, scripts_program, serve_command, show_command, size_rule, skew_rule, skip_rule, trace_rule, warm_rule, with_history, with_judging, with_listing, with_loads, with_reading, with_scope, zipf_rule};
 
 use crate::help;
 use crate::help::Help;
@@ -78,7 +78,8 @@ fn check<'a>(alloc: Global) -> Result<Command<'a>, AllocError>
     ensures { IfOk result (λ c. app_of c ≡ check_command) }
 {
     let check = command(alloc, "check", &help::CHECK);
-    match with_history(alloc, check, "File of the trace, or - for standard input") {
+    let check = check.arg(file(alloc, "File of the trace, or - for standard input"))?;
+    match with_history(alloc, check) {
         Ok(check) => Ok(check),
         Err(refused) => Err(refused),
     }
@@ -89,7 +90,8 @@ pub fn judge<'a>(alloc: Global) -> Result<Command<'a>, AllocError>
     ensures { IfOk result (λ c. app_of c ≡ judge_command) }
 {
     let judge = command(alloc, "judge", &help::JUDGE);
-    let judge = with_history(alloc, judge, "File of the text, or - for standard input")?;
+    let judge = judge.arg(files(alloc))?;
+    let judge = with_history(alloc, judge)?;
     let listed = with_listing(alloc, judge)?;
     let scoped = with_scope(alloc, listed)?;
     match with_reading(alloc, scoped) {
@@ -124,15 +126,10 @@ fn with_listing<'a>(alloc: Global, command: Command<'a>) -> Result<Command<'a>, 
     traced.arg(junit(alloc))
 }
 
-/// A command that judges the history in a file, which means this.
-fn with_history<'a>(
-    alloc: Global,
-    command: Command<'a>,
-    meaning: &'a str,
-) -> Result<Command<'a>, AllocError>
+/// A command that judges a history.
+fn with_history<'a>(alloc: Global, command: Command<'a>) -> Result<Command<'a>, AllocError>
     ensures { IfOk result (λ c. app_of c ≡ with_history (app_of command.entry)) }
 {
-    let command = command.arg(file(alloc, meaning))?;
     let explained = command.arg(explain(alloc))?;
     let told = explained.arg(json(alloc))?;
     told.arg(picture(alloc))
@@ -153,6 +150,17 @@ fn file<'a>(alloc: Global, meaning: &'a str) -> Arg<'a>
     ensures local { result.global ≡ false }
 {
     Arg::new(alloc, "FILE").required(true).help(meaning)
+}
+
+/// The files that are to be judged.
+fn files<'a>(alloc: Global) -> Arg<'a>
+    ensures rule { rule_of result ≡ files_rule }
+    ensures local { result.global ≡ false }
+{
+    Arg::new(alloc, "FILE")
+        .num_args(1usize..)
+        .required(true)
+        .help("Files of the texts, each judged by itself, or - for standard input")
 }
 
 /// Whether it is said why a history is rejected.

@@ -113,6 +113,39 @@ pub fn no_number_to(alloc: Global, option: &'static str, most: u64, given: &str)
     no_range(alloc, Loading::Judge, &range, given)
 }
 
+/// What is reported if the standard input is to be judged twice.
+pub fn input_twice(alloc: Global) -> LineFault
+    ensures { IsUsage result }
+{
+    conflict(alloc, "- can be given once only, since the standard input is read once")
+}
+
+/// What is reported if a file is to be written beside the verdicts of several files.
+pub fn not_with_files(alloc: Global) -> LineFault
+    ensures { IsUsage result }
+{
+    conflict(
+        alloc,
+        "--trace, --picture and --junit write one file, so they take one FILE: judge each by a command of its own",
+    )
+}
+
+/// What is reported of words of `judge` that don't go together.
+fn conflict(alloc: Global, message: &str) -> LineFault
+    ensures { IsUsage result }
+{
+    match conflict_error(alloc, message) {
+        Ok(error) => usage_of(alloc, &error),
+        Err(_) => LineFault::OutOfMemory,
+    }
+}
+
+/// The same, as `clap` words it.
+fn conflict_error(alloc: Global, message: &str) -> Result<clap::Error, AllocError> {
+    let mut command = judge(alloc)?.bin_name("kangaroo judge")?;
+    command.error(ErrorKind::ArgumentConflict, message)
+}
+
 /// What is reported if the text that was given for the keys of `judge` is no share of them.
 pub fn no_share(alloc: Global, given: &str) -> LineFault
     ensures { IsUsage result }
