@@ -159,6 +159,7 @@ fn files<'a>(alloc: Global) -> Arg<'a>
 {
     Arg::new(alloc, "FILE")
         .num_args(1usize..)
+        .action(ArgAction::Append)
         .required(true)
         .help("Files of the texts, each judged by itself, or - for standard input")
 }
