@@ -272,12 +272,9 @@ fn keys<'a>(alloc: Global) -> Arg<'a>
     ensures rule { rule_of result ≡ keys_rule }
     ensures local { result.global ≡ false }
 {
-    Arg::new(alloc, "keys")
-        .long("keys")
-        .value_name("P/Q")
-        .help(
-            "Judge one in Q keys: those whose hash leaves the remainder P, which is\nless than Q. With 0/Q to Q-1/Q each key is judged once.",
-        )
+    Arg::new(alloc, "keys").long("keys").value_name("P/Q").help(
+        "Judge one in Q keys: those whose hash leaves the remainder P, which is\nless than Q. With 0/Q to Q-1/Q each key is judged once.",
+    )
 }
 
 /// Whether bad lines are passed over.

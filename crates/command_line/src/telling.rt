@@ -117,7 +117,10 @@ pub fn no_number_to(alloc: Global, option: &'static str, most: u64, given: &str)
 pub fn input_twice(alloc: Global) -> LineFault
     ensures { IsUsage result }
 {
-    conflict(alloc, "- can be given once only, since the standard input is read once")
+    conflict(
+        alloc,
+        "- can be given once only, since the standard input is read once",
+    )
 }
 
 /// What is reported if a file is to be written beside the verdicts of several files.

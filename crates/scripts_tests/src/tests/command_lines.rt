@@ -156,7 +156,9 @@ fn read_so<'a>(alloc: Global, words: &'a [&'a str], share: Option<Share>, skip_b
     match parse_line(alloc, words) {
         Ok(Line::Judge(request)) => {
             let reading = request.scope.reading;
-            Some(reading.share) == share && reading.skip_bad == skip_bad && request.others.is_empty()
+            Some(reading.share) == share
+                && reading.skip_bad == skip_bad
+                && request.others.is_empty()
         }
         _ => false,
     }
@@ -168,8 +170,23 @@ fn shares_and_bad_lines_are_asked_for(rt: HostRuntime) {
     let all = Some(Share::ALL);
     assert!(rt; read_so(alloc, &["kangaroo", "judge", "-"], all, false));
     assert!(rt; read_so(alloc, &["kangaroo", "judge", "--skip-bad", "-"], all, true));
-    assert!(rt; read_so(alloc, &["kangaroo", "judge", "--keys", "2/8", "-"], Share::new(2, 8), false));
-    for word in ["--keys=8/8", "--keys=2", "--keys=/8", "--keys=2/", "--keys=1/4294967296", "--keys=a/8", "--keys=1/2/3"] {
+    assert!(rt;
+        read_so(
+            alloc,
+            &["kangaroo", "judge", "--keys", "2/8", "-"],
+            Share::new(2, 8),
+            false
+        )
+    );
+    for word in [
+        "--keys=8/8",
+        "--keys=2",
+        "--keys=/8",
+        "--keys=2/",
+        "--keys=1/4294967296",
+        "--keys=a/8",
+        "--keys=1/2/3",
+    ] {
         assert!(rt; ask_for(alloc, &["kangaroo", "judge", word, "-"], Asked::Usage));
     }
 }
@@ -194,7 +211,13 @@ fn several_files_are_asked_for(rt: HostRuntime) {
     for word in ["--trace=t", "--picture=p", "--junit=j"] {
         assert!(rt; ask_for(alloc, &["kangaroo", "judge", word, "a", "b"], Asked::Usage));
     }
-    assert!(rt; ask_for(alloc, &["kangaroo", "check", "a.trace", "b.trace"], Asked::Usage));
+    assert!(rt;
+        ask_for(
+            alloc,
+            &["kangaroo", "check", "a.trace", "b.trace"],
+            Asked::Usage
+        )
+    );
 }
 
 /// Whether these words ask for this.

@@ -10,7 +10,10 @@ use trace_file::FileName;
 /// Files, and what they hold.
 const FILES: [(&str, &[u8]); 3] = [
     ("right.txt", b"a 1 2 put k v\nb 3 4 hit k v\n"),
-    ("stale.txt", b"a 1 2 put k v\na 3 4 put k w\nb 5 6 hit k v\n"),
+    (
+        "stale.txt",
+        b"a 1 2 put k v\na 3 4 put k w\nb 5 6 hit k v\n",
+    ),
     ("bad.txt", b"a 1 2 put k v\nbad\n"),
 ];
 
@@ -62,7 +65,10 @@ const TURNS: [Turn; 6] = [
 ];
 
 /// Whether files are judged in turn as they should be.
-fn is_right<R: AllocGlobal + Files + RandomSource>(rt: &R, turn: &Turn) -> Result<bool, AllocError> {
+fn is_right<R: AllocGlobal + Files + RandomSource>(
+    rt: &R,
+    turn: &Turn,
+) -> Result<bool, AllocError> {
     let alloc = rt.alloc();
     let mut others = Vec::new(alloc);
     for file in &turn.files[1..] {

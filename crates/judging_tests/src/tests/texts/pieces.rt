@@ -7,10 +7,12 @@ use std::io::{Error, ErrorKind, Read};
 use std::test::Fail;
 
 /// Five calls, a remark and a bad line.
-const TEXT: &[u8] = b"x 1 2 put k v\n# none\ny 3 - remove k\nbad\nx 5 6 hit k v 7\nz 8 9 miss k\nx 9 9 put k w";
+const TEXT: &[u8] =
+    b"x 1 2 put k v\n# none\ny 3 - remove k\nbad\nx 5 6 hit k v 7\nz 8 9 miss k\nx 9 9 put k w";
 
 /// What is written of it.
-const TOLD: &[u8] = b"c0 1 2 put k v\nc1 3 - remove k\nc0 5 6 hit k v 7\nc2 8 9 miss k\nc0 9 9 put k w\n";
+const TOLD: &[u8] =
+    b"c0 1 2 put k v\nc1 3 - remove k\nc0 5 6 hit k v 7\nc2 8 9 miss k\nc0 9 9 put k w\n";
 
 /// A reader that gives few bytes at a time, and after them fails or is at its end.
 #[derive(Drop)]
@@ -33,6 +35,7 @@ impl Read for Few<'_> {
 }
 
 /// A text that was read by pieces of so many calls, and how many pieces it had.
+#[derive(Drop)]
 struct Pieces {
     text: TextHistory<BuildHasherDefault<FoldHasher>>,
     pieces: u32,
@@ -74,8 +77,8 @@ fn is_right(alloc: Global, few: usize, most: usize, pieces: u32) -> Result<bool,
     let Ok(()) = write_text(alloc, &came.text.history, None, &mut told) else {
         return Ok(false);
     };
-    let lines = came.text.lines == [1u32, 3, 5, 6, 7].as_slice();
-    Ok(told == TOLD && lines && came.pieces == pieces && came.skipped == 1)
+    let lines = came.text.lines.as_slice() == [1u32, 3, 5, 6, 7].as_slice();
+    Ok(told.as_slice() == TOLD && lines && came.pieces == pieces && came.skipped == 1)
 }
 
 #[test]
@@ -120,8 +123,8 @@ fn some_calls_are_kept(rt: HostRuntime) -> Result<(), Fail> {
     came.text.keep(rt.alloc(), &[4, 1, 9])?;
     let mut told = Vec::new(rt.alloc());
     assert!(rt; write_text(rt.alloc(), &came.text.history, None, &mut told).is_ok());
-    assert!(rt; told == b"c0 9 9 put k w\nc1 3 - remove k\n");
-    assert!(rt; came.text.lines == [7u32, 3].as_slice());
+    assert!(rt; told.as_slice() == b"c0 9 9 put k w\nc1 3 - remove k\n".as_slice());
+    assert!(rt; came.text.lines.as_slice() == [7u32, 3].as_slice());
     assert!(rt; came.text.callers.len() == 3);
     Ok(())
 }

@@ -36,7 +36,7 @@ enum Came {
 }
 
 /// What comes of reading a text.
-fn came(alloc: Global, reading: Reading, mut text: &[u8]) -> Came {
+fn what_came(alloc: Global, reading: Reading, mut text: &[u8]) -> Came {
     let known: BuildHasherDefault<FoldHasher> = BuildHasherDefault::new();
     match read_text(alloc, known, reading, &mut text) {
         Ok(read) => {
@@ -66,8 +66,8 @@ fn a_bad_line_is_a_fault_unless_it_may_be_passed_over(rt: HostRuntime) -> Result
     for (line, cause) in BAD {
         let text = between(alloc, line)?;
         let bad = BadLine { number: 2, cause };
-        assert!(rt; came(alloc, Reading::WHOLE, &text) == Came::Bad(bad));
-        assert!(rt; came(alloc, SKIPPING, &text) == Came::Read(2, 3, 2, 1));
+        assert!(rt; what_came(alloc, Reading::WHOLE, &text) == Came::Bad(bad));
+        assert!(rt; what_came(alloc, SKIPPING, &text) == Came::Read(2, 3, 2, 1));
     }
     Ok(())
 }
@@ -82,7 +82,7 @@ fn a_line_that_is_too_long_is_a_fault_even_so(rt: HostRuntime) -> Result<(), Fai
         number: 2,
         cause: LineCause::TooLong,
     };
-    assert!(rt; came(alloc, SKIPPING, &text) == Came::Bad(bad));
+    assert!(rt; what_came(alloc, SKIPPING, &text) == Came::Bad(bad));
     Ok(())
 }
 
@@ -122,7 +122,7 @@ fn calls_of_other_keys_are_left_out_with_their_callers(rt: HostRuntime) -> Resul
             share,
             ..Reading::WHOLE
         };
-        match came(rt.alloc(), reading, text) {
+        match what_came(rt.alloc(), reading, text) {
             Came::Read(0, 0, 0, 0) => {}
             Came::Read(2, last, 1, 0) => {
                 assert!(rt; last == 3 || last == 4);
