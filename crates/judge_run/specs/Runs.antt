@@ -66,7 +66,8 @@ worse_of one other = if nat_lt (weight_of one) (weight_of other) then other else
 
 -- that of several
 abbrev pub worst_of : List ℕ → ℕ
-worst_of statuses = fold worse_of 0 statuses
+worst_of [] = 0
+worst_of (status ∷ statuses) = fold worse_of status statuses
 
 -- the texts in these files were judged in turn, and the status is that which has to be noticed most
 pub record JudgedInTurn (form : Form) (scope : Scope) (detail : Detail) (least : ℕ) (headed : Bool) (files : List (List ℕ)) (input left old new : Option (List ℕ)) (status : ℕ) : Type 0 where

@@ -110,13 +110,13 @@ fn judge_file<R: AllocGlobal + Files + RandomSource, I: Read, O: Write, E: Write
         request.now.at_least headed file.now (I.remaining stdin.old) (I.remaining stdin.new)
         (O.contents out.old) (O.contents out.new) result }
 {
-    if headed {
-        match write_heading(rt.alloc(), file, out) {
-            Ok(()) => {}
-            Err(fault) => return untold(err, input_name(file), fault).status(),
-        }
+    if !headed {
+        return judge_at(rt, stdin, request, file, out, err);
     }
-    judge_at(rt, stdin, request, file, out, err)
+    match write_heading(rt.alloc(), file, out) {
+        Ok(()) => judge_at(rt, stdin, request, file, out, err),
+        Err(fault) => untold(err, input_name(file), fault).status(),
+    }
 }
 
 /// Writes the name of a file and a colon, on a line of their own.
