@@ -1,3 +1,4 @@
+mod KeepLaws
 mod PieceLaws
 mod WritingLaws
 mod NameLaws

@@ -4,11 +4,11 @@ ghost use Rattle.std.specs.Io.KnownBytes.{IsAtEnd};
 ghost use Rattle.history_text.specs.Text.{read_by, text_by, text_of};
 ghost use Rattle.history_text.specs.Outcome.{IsFaultOf, Left};
 
-use crate::whole_text::ReadText;
 use crate::read_text_fault::ReadTextFault;
 use crate::reading::Reading;
 use crate::text_history::TextHistory;
 use crate::text_reader::TextReader;
+use crate::whole_text::ReadText;
 use std::alloc::Global;
 use std::hash::BuildHasher;
 use std::io::Read;

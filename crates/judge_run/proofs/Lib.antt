@@ -1,3 +1,4 @@
+mod TurnLaws
 mod RowLaws
 mod RunLaws
 mod ScopeLaws

@@ -131,7 +131,13 @@ pub(crate) fn tell_extent(
     ensures { OnOk result (string_bytes text.new
         ≡ with_rows form (string_bytes text.old) (extent_rows extent.now)) }
 {
-    tell_count(alloc, form, text, "values-from-start", from_start_of(extent))?;
+    tell_count(
+        alloc,
+        form,
+        text,
+        "values-from-start",
+        from_start_of(extent),
+    )?;
     tell_count(alloc, form, text, "bad-lines", extent.skipped)?;
     match tell_count(alloc, form, text, "calls-forgotten", forgotten_if(extent)) {
         Ok(()) => Ok(()),

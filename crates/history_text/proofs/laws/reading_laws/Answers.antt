@@ -2,4 +2,4 @@ use Rattle.history_text.proofs.PieceLaws.{texts_spelled}
 use Rattle.history_text.proofs.laws.reading_laws.Goals as goal
 
 pub returns : goal.returns
-returns c = texts_spelled
+returns c = record { spelled = texts_spelled }
