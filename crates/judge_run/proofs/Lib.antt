@@ -7,3 +7,6 @@ mod TraceLines
 mod ShowLaws
 mod FoundLaws
 mod KeyLaws
+mod KeepLaws
+mod StreamLaws
+mod TextLaws

@@ -7,6 +7,7 @@ use Rattle.figures.specs.Figures.{Row, number, row}
 use Rattle.judge_run.specs.declared.extent.Extent.{Extent}
 use Rattle.judge_run.specs.declared.forgotten.Forgotten.{Forgotten}
 use Rattle.judge_run.specs.Extents.{added_before, own_of, with_forgotten}
+use Rattle.judge_run.specs.declared.kind_counts.KindCounts.{KindCounts}
 use Rattle.judge_run.specs.declared.kinds.CountedKind.{CountedKind}
 use Rattle.judge_run.specs.declared.kinds.CountedKind.TheVariants.{Put, Removal, Hit, Miss}
 
@@ -36,6 +37,10 @@ is_of kind call = is_act_of kind call.act
 -- how many calls are of a kind
 abbrev pub calls_of : CountedKind → List Call → ℕ
 calls_of kind calls = count_by (is_of kind) calls
+
+-- how many calls of each kind there are
+abbrev pub counts_in : List Call → KindCounts
+counts_in calls = record { puts = calls_of Put calls; removals = calls_of Removal calls; hits = calls_of Hit calls; misses = calls_of Miss calls }
 
 -- how many calls of a kind were judged and forgotten
 abbrev pub gone_of : CountedKind → Option Forgotten → ℕ

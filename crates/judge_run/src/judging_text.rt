@@ -1,9 +1,10 @@
 // Judging the history that a text spells.
-ghost use Rattle.std.specs.Prelude.{◌≡◌, ◌≢◌, IfOk, IfErr, IfSome, OnOk, length};
+ghost use Rattle.std.specs.Prelude.{◌≡◌, ◌≢◌, None, IfOk, IfErr, IfSome, OnOk, length};
 ghost use Rattle.std.specs.Io.KnownBytes.{IsAtEnd};
 ghost use Rattle.history_text.specs.Outcome.{IsFaultOf, Left};
 ghost use Rattle.history_text.specs.Text.{text_by};
 ghost use Rattle.judge_run.specs.Scopes.{IsCounted, IsJudged};
+ghost use Rattle.judge_run.specs.Streams.{IsEndedBy, IsFaultBy, IsJudgedBy, IsLeftBy, was_accepted, was_decided};
 ghost use Rattle.certificate_finder.specs.Finding.{IfRejected, IsFound};
 ghost use Rattle.judge_run.specs.Listing.{IsListed};
 
@@ -35,6 +36,41 @@ pub fn judge_text<S: BuildHasher + Copy + Drop, R: Read>(
     scope: Scope,
     reader: &mut R,
 ) -> Result<JudgedText<S>, ReadTextFault>
+    ensures text { IfOk result (λ judged. IsJudgedBy scope.window scope (R.remaining reader.old)
+        (was_accepted judged.found) (was_decided judged.found)
+        (text_by judged.text.history judged.text.lines.items judged.text.callers) judged.extent) }
+    ensures found { IfOk result (λ judged. IsFound judged.text.history judged.found) }
+    ensures faults { IfOk result (λ judged. IfRejected judged.found
+        (λ _. IsListed judged.text.history judged.faults)) }
+    ensures as_many { IfOk result (λ judged.
+        length judged.text.lines.items ≡ length judged.text.history) }
+    ensures end { IfOk result (λ judged. IsEndedBy scope.window (was_accepted judged.found)
+        (R.remaining reader.new)) }
+    ensures fault { IfErr result (IsFaultBy scope.window scope (R.remaining reader.old)) }
+    ensures left { IfErr result (IsLeftBy scope.window scope
+        (R.remaining reader.old) (R.remaining reader.new)) }
+{
+    match scope.window {
+        None => match judge_whole(alloc, hash_builder, scope, reader) {
+            Ok(judged) => Ok(judged),
+            Err(fault) => Err(fault),
+        },
+        Some(window) => {
+            match judge_stream(alloc, hash_builder, scope, window, LEAST_PIECE, reader) {
+                Ok(judged) => Ok(judged),
+                Err(fault) => Err(fault),
+            }
+        }
+    }
+}
+
+/// The same of a text that is read whole.
+fn judge_whole<S: BuildHasher + Copy + Drop, R: Read>(
+    alloc: Global,
+    hash_builder: S,
+    scope: Scope,
+    reader: &mut R,
+) -> Result<JudgedText<S>, ReadTextFault>
     ensures text { IfOk result (λ judged. IsJudged scope (R.remaining reader.old)
         (text_by judged.text.history judged.text.lines.items judged.text.callers) judged.extent) }
     ensures found { IfOk result (λ judged. IsFound judged.text.history judged.found) }
@@ -48,19 +84,6 @@ pub fn judge_text<S: BuildHasher + Copy + Drop, R: Read>(
     ensures left { IfErr result (λ fault. fault ≢ ReadTextFault.OutOfMemory
         → Left scope.reading (R.remaining reader.old) (R.remaining reader.new) fault) }
 {
-    match scope.window {
-        None => judge_whole(alloc, hash_builder, scope, reader),
-        Some(window) => judge_stream(alloc, hash_builder, scope, window, LEAST_PIECE, reader),
-    }
-}
-
-/// The same of a text that is read whole.
-fn judge_whole<S: BuildHasher + Copy + Drop, R: Read>(
-    alloc: Global,
-    hash_builder: S,
-    scope: Scope,
-    reader: &mut R,
-) -> Result<JudgedText<S>, ReadTextFault> {
     let read = match read_text(alloc, hash_builder, scope.reading, reader) {
         Ok(read) => read,
         Err(fault) => return Err(fault),

@@ -1,7 +1,7 @@
 // How many calls of each kind were forgotten.
-ghost use Rattle.std.specs.Prelude.{◌≡◌, ◌+◌, ◌-◌, IfSome};
-ghost use Rattle.judge_run.specs.declared.kinds.CountedKind.TheVariants as kinds;
-ghost use Rattle.judge_run.specs.Kinds.{calls_of};
+ghost use Rattle.std.specs.Prelude.{◌≡◌, ◌+◌, IfSome, unwrap_or};
+ghost use Rattle.judge_run.specs.Kinds.{counts_in};
+ghost use Rattle.judge_run.specs.Streams.{IsGrown};
 
 use crate::forgotten::Forgotten;
 use crate::kinds::{CountedKind, calls_of};
@@ -18,11 +18,7 @@ pub(crate) struct KindCounts {
 
 /// How many calls of each kind a history has.
 pub(crate) fn counts_of(history: &History) -> KindCounts
-    ensures { result ≡ record {
-        puts = calls_of kinds.Put history.now;
-        removals = calls_of kinds.Removal history.now;
-        hits = calls_of kinds.Hit history.now;
-        misses = calls_of kinds.Miss history.now } }
+    ensures { result ≡ counts_in history.now }
 {
     KindCounts {
         puts: calls_of(history, CountedKind::Put),
@@ -32,31 +28,46 @@ pub(crate) fn counts_of(history: &History) -> KindCounts
     }
 }
 
-/// A number, and by how much another one became less, if 32 bits can hold it.
+/// A number, and by how much another one became less, if it did not grow and 32 bits can hold the sum.
 fn more(count: u32, before: usize, after: usize) -> Option<u32>
-    ensures { IfSome result (λ sum. sum ≡ count + (before - after)) }
+    ensures { IfSome result (λ sum. before + count ≡ after + sum) }
 {
-    let sum = (count as usize).checked_add(before.saturating_sub(after))?;
+    let gone = before.checked_sub(after)?;
+    let sum = (count as usize).checked_add(gone)?;
     u32::try_from(sum).ok()
 }
 
-/// What was forgotten, with the calls that went, of those that were judged, and the puts that were added to them; if 32 bits can hold
-/// each number.
+/// How many puts were added with these, if 32 bits can hold it.
+fn added_with(added: u32, from_start: Option<usize>) -> Option<u32>
+    ensures { IfSome result (λ sum. sum ≡ added + unwrap_or from_start 0) }
+{
+    let Some(values) = from_start else {
+        return Some(added);
+    };
+    let sum = (added as usize).checked_add(values)?;
+    u32::try_from(sum).ok()
+}
+
+/// What was forgotten, with the calls that went, of those that were judged, and the puts that were added to them; if none of the counts
+/// grew, and 32 bits can hold each number.
 pub(crate) fn grown(
     forgotten: Forgotten,
     before: &KindCounts,
     after: &KindCounts,
     from_start: Option<usize>,
-) -> Option<Forgotten> {
-    let added = match from_start {
-        Some(values) => more(forgotten.added, values, 0)?,
-        None => forgotten.added,
-    };
+) -> Option<Forgotten>
+    ensures { IfSome result (λ more. IsGrown forgotten more before.now after.now from_start) }
+{
+    let puts = more(forgotten.puts, before.puts, after.puts)?;
+    let removals = more(forgotten.removals, before.removals, after.removals)?;
+    let hits = more(forgotten.hits, before.hits, after.hits)?;
+    let misses = more(forgotten.misses, before.misses, after.misses)?;
+    let added = added_with(forgotten.added, from_start)?;
     Some(Forgotten {
-        puts: more(forgotten.puts, before.puts, after.puts)?,
-        removals: more(forgotten.removals, before.removals, after.removals)?,
-        hits: more(forgotten.hits, before.hits, after.hits)?,
-        misses: more(forgotten.misses, before.misses, after.misses)?,
+        puts,
+        removals,
+        hits,
+        misses,
         added,
     })
 }

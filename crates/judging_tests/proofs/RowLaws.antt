@@ -1,5 +1,5 @@
 -- What is told of a history that is rejected, by its own calls and lines.
-use Rattle.std.proofs.Common.{◌≡◌, ◌∙◌, ℕ, List, [], ◌++◌, Option, Some, ap, length, subst, sym}
+use Rattle.std.proofs.Common.{◌≡◌, ◌∙◌, ℕ, List, [], ◌++◌, Option, None, Some, ap, length, subst, sym}
 use Rattle.std.proofs.Math.Nat.{sub-zero}
 use Rattle.certificate_finder.specs.declared.found.Found.TheVariants as found
 use Rattle.certificate_finder.specs.Witnesses.{IsWitness}
@@ -22,9 +22,9 @@ use Rattle.judging_tests.specs.Objects.{IsReasonTold, as_spelled}
 use Rattle.std.specs.Prelude.{false}
 
 -- of an outcome that is a rejection, told unasked as an object, if nothing was warmed
-pub reason_told : (skew : ℕ) (known : Option (List ℕ)) (rejection : Rejection) (old new : List ℕ) (outcome : Outcome) → outcome ≡ Rejected rejection → ToldText Json (record { skew = skew; warm = false; reading = whole }) known (record { explain = false; all = false }) outcome (Some old) (Some new) → IsReasonTold rejection old new
+pub reason_told : (skew : ℕ) (known : Option (List ℕ)) (rejection : Rejection) (old new : List ℕ) (outcome : Outcome) → outcome ≡ Rejected rejection → ToldText Json (record { skew = skew; warm = false; reading = whole; window = None }) known (record { explain = false; all = false }) outcome (Some old) (Some new) → IsReasonTold rejection old new
 reason_told skew known rejection old new outcome rejects was =
-    let scope : Scope = record { skew = skew; warm = false; reading = whole } in
+    let scope : Scope = record { skew = skew; warm = false; reading = whole; window = None } in
     let told : ToldText Json scope known (record { explain = false; all = false }) (Rejected rejection) (Some old) (Some new) = subst (λ (o : Outcome). ToldText Json scope known (record { explain = false; all = false }) o (Some old) (Some new)) rejects was in
     let is = told.is.is in
     let object : Text → Extent → List ℕ = λ text extent. ended Json (with_calls Json text.calls text.lines (own_of extent (length text.calls)) is.witness (with_rows Json [] (found_rows text.calls text.lines extent (found.Rejected is.witness) is.faults))) in

@@ -15,8 +15,8 @@ same_behind form explain rejection told more wanted begun front m b behind =
     subst (λ (text : List ℕ). IsBehind form explain text rejection front told) m
     (subst (λ (text : List ℕ). IsBehind form explain more rejection text told) b behind)
 
-pub returns : goal.returns
-returns g c =
+pub returns-clause-told : goal.returns-clause-told
+returns-clause-told g c =
     let form = c.args.form in
     let calls = c.args.text.history in
     let lines = c.args.text.lines.items in

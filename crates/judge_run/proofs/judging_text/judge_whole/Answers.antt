@@ -2,7 +2,7 @@
 use Rattle.std.proofs.Common.{refl, subst}
 use Rattle.history_text.specs.Text.{Text, text_by}
 use Rattle.judge_run.specs.Scopes.{IsWarmedIf}
-use Rattle.judge_run.proofs.judging_text.judge_text.Goals as goal
+use Rattle.judge_run.proofs.judging_text.judge_whole.Goals as goal
 
 pub returns-clause-text : goal.returns-clause-text
 returns-clause-text g c =
