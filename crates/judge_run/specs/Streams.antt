@@ -1,5 +1,5 @@
 -- What is judged of a text that is read as a stream.
-use Rattle.std.specs.Prelude.{◌≡◌, ◌≢◌, ◌↔◌, ◌⊎◌, ℕ, ◌+◌, ◌-◌, ◌<◌, Bool, true, false, List, [], ◌++◌, IfSome, length, map, take, slice_get, Option, Some, None, Err}
+use Rattle.std.specs.Prelude.{◌≡◌, ◌≢◌, ◌↔◌, ◌⊎◌, ℕ, ◌+◌, ◌-◌, ◌<◌, Bool, true, false, List, [], ◌∷◌, ◌++◌, IfSome, length, map, take, slice_get, Option, Some, None, Err}
 use Rattle.std.specs.Io.KnownBytes.{IsAtEnd}
 use Rattle.trace_file.specs.declared.call.Call.{Call}
 use Rattle.clock_skew.specs.Widening.{widened}
@@ -7,9 +7,8 @@ use Rattle.history_text.specs.declared.bad_line.BadLine.{BadLine}
 use Rattle.history_text.specs.declared.line_cause.LineCause.TheVariants.{BeforeWindow, TooManyCalls}
 use Rattle.history_text.specs.declared.read_text_fault.ReadTextFault.{ReadTextFault}
 use Rattle.history_text.specs.declared.read_text_fault.ReadTextFault.TheVariants.{Bad, ReadFault, OutOfMemory}
-use Rattle.history_text.specs.declared.reading.Reading.{Reading}
-use Rattle.history_text.specs.Pieces.{GoesOn, Progress}
-use Rattle.history_text.specs.Text.{Text, calls_of, endless, no_text}
+use Rattle.history_text.specs.Pieces.{GoesOn, IsFaultFrom, Progress}
+use Rattle.history_text.specs.Text.{Text, calls_of, endless, no_text, read_by, text_by}
 use Rattle.history_window.specs.Standing.{Acceptable, StartFrom}
 use Rattle.history_window.specs.Streams.{ArePieces, IsKeptAfter, Piece, all_in, calls_in, judged_in, judged_lines, last_end, lines_in, puts_in}
 use Rattle.judge_run.specs.declared.extent.Extent.{Extent}
@@ -17,16 +16,14 @@ use Rattle.judge_run.specs.declared.forgotten.Forgotten.{Forgotten}
 use Rattle.judge_run.specs.declared.kinds.CountedKind.{CountedKind}
 use Rattle.judge_run.specs.declared.kinds.CountedKind.TheVariants.{Put, Removal, Hit, Miss}
 use Rattle.judge_run.specs.declared.scope.Scope.{Scope}
+use Rattle.judge_run.specs.Scopes.{IsCounted}
 use Rattle.judge_run.specs.Kinds as kinds
-
--- nothing was read yet
-abbrev pub begun : Reading → Progress
-begun how = record { reading = how; number = 1; skipped = 0; ahead = record { bytes = []; over = false } }
 
 -- these calls, widened by the skew of the stamps, stand on these lines in what was read so far. If the bytes are known, what is left of them gives, after it, what all bytes give
 pub record IsReadSoFar (scope : Scope) (known left : Option (List ℕ)) (progress : Progress) (calls : List Call) (lines : List ℕ) (callers : List (List ℕ)) : Type 0 where
   pub spelled : Text
-  pub goes_on : GoesOn endless known (begun scope.reading) no_text left progress spelled
+  pub reading : progress.reading ≡ scope.reading
+  pub goes_on : GoesOn endless scope.reading known (read_by no_text 0) 1 left (read_by spelled progress.skipped) progress.number
   pub calls_are : calls ≡ map (widened scope.skew) spelled.calls
   pub lines_are : lines ≡ spelled.lines
   pub callers_are : callers ≡ spelled.callers
@@ -59,60 +56,78 @@ pub record IsStreamed (scope : Scope) (window : ℕ) (known : Option (List ℕ))
   pub progress : Progress
   pub read : IsReadSoFar scope known left progress (calls_in (last ∷ earlier)) (lines_in (last ∷ earlier)) judged.callers
   pub whole : accepted ≡ true → IsAtEnd left
-  pub skipped : extent.skipped ≡ progress.skipped
+  pub skipped : IsCounted scope.reading.skip_bad progress.skipped extent.skipped
   pub added : extent.from_start ≡ added_if scope.warm last.puts
   pub forgotten : Forgotten
   pub forgotten_is : extent.forgotten ≡ Some forgotten
   pub counted : AreCounted forgotten (all_in (last ∷ earlier)) judged.calls
   pub added_before : forgotten.added ≡ puts_in earlier
 
--- what is kept after pieces: it is theirs, and their text was read so far
-pub record IsGoing (scope : Scope) (window : ℕ) (known left : Option (List ℕ)) (progress : Progress) (kept : Text) (bound latest : ℕ) (forgotten : Forgotten) : Type 0 where
+-- the stamp at which calls that come after these have to start, or later
+abbrev pub bound_after : ℕ → List Call → ℕ
+bound_after window calls = last_end 0 calls - window
+
+-- this is held of a stream: what was kept at the last acceptance, which was of these pieces, and after it all calls that were read since then. Those start at the stamp of that acceptance or later
+pub record IsTaken (scope : Scope) (window : ℕ) (known left : Option (List ℕ)) (progress : Progress) (held : Text) (latest : ℕ) (forgotten : Forgotten) : Type 0 where
   pub pieces : List Piece
   pub are : ArePieces window scope.warm pieces
-  pub latest_is : latest ≡ last_end 0 (calls_in pieces)
-  pub bound_is : bound ≡ latest - window
-  pub after : IsKeptAfter bound pieces kept.calls kept.lines
-  pub read : IsReadSoFar scope known left progress (calls_in pieces) (lines_in pieces) kept.callers
-  pub counted : AreCounted forgotten (all_in pieces) kept.calls
-  pub added : forgotten.added ≡ puts_in pieces
-
--- the next piece was read, and its calls stand after what is kept; none of them starts before the stamp
-pub record IsTaken (scope : Scope) (window : ℕ) (known left : Option (List ℕ)) (progress : Progress) (text : Text) (bound latest : ℕ) (forgotten : Forgotten) : Type 0 where
-  pub kept : Text
-  pub pieces : List Piece
+  pub kept : List Call
+  pub kept_lines : List ℕ
+  pub after : IsKeptAfter (bound_after window (calls_in pieces)) pieces kept kept_lines
   pub calls : List Call
   pub lines : List ℕ
-  pub are : ArePieces window scope.warm pieces
-  pub bound_is : bound ≡ last_end 0 (calls_in pieces) - window
-  pub after : IsKeptAfter bound pieces kept.calls kept.lines
-  pub late : StartFrom bound calls
+  pub late : StartFrom (bound_after window (calls_in pieces)) calls
   pub latest_is : latest ≡ last_end 0 (calls_in pieces ++ calls)
-  pub calls_are : text.calls ≡ kept.calls ++ calls
-  pub lines_are : text.lines ≡ kept.lines ++ lines
-  pub read : IsReadSoFar scope known left progress (calls_in pieces ++ calls) (lines_in pieces ++ lines) text.callers
-  pub counted : AreCounted forgotten (all_in pieces) kept.calls
+  pub calls_are : held.calls ≡ kept ++ calls
+  pub lines_are : held.lines ≡ kept_lines ++ lines
+  pub as_many : length held.lines ≡ length held.calls
+  pub read : IsReadSoFar scope known left progress (calls_in pieces ++ calls) (lines_in pieces ++ lines) held.callers
+  pub counted : AreCounted forgotten (all_in pieces) kept
   pub added : forgotten.added ≡ puts_in pieces
 
--- the call on a line is the first of a piece that starts before the stamp at which the calls of the piece have to start or later
-pub record IsBefore (scope : Scope) (window : ℕ) (known left : Option (List ℕ)) (line : ℕ) : Type 0 where
+-- the same between two readings: the calls that are read next have to start at this stamp or later
+pub record IsGoing (scope : Scope) (window : ℕ) (known left : Option (List ℕ)) (progress : Progress) (held : Text) (bound latest : ℕ) (forgotten : Forgotten) : Type 0 where
+  pub taken : IsTaken scope window known left progress held latest forgotten
+  pub bound_is : bound ≡ latest - window
+
+-- these calls were read after all of earlier readings, and the one on a line is the first of them that starts before the stamp that those give
+pub record IsBefore (scope : Scope) (window : ℕ) (known : Option (List ℕ)) (line : ℕ) : Type 0 where
   pub pieces : List Piece
   pub are : ArePieces window scope.warm pieces
+  pub since : List Call
+  pub since_lines : List ℕ
+  pub late : StartFrom (bound_after window (calls_in pieces)) since
   pub calls : List Call
   pub lines : List ℕ
   pub callers : List (List ℕ)
+  pub left : Option (List ℕ)
   pub progress : Progress
-  pub read : IsReadSoFar scope known left progress (calls_in pieces ++ calls) (lines_in pieces ++ lines) callers
+  pub read : IsReadSoFar scope known left progress ((calls_in pieces ++ since) ++ calls) ((lines_in pieces ++ since_lines) ++ lines) callers
   pub place : ℕ
   pub call : Call
   pub at : slice_get calls place ≡ Some call
-  pub before : call.start < last_end 0 (calls_in pieces) - window
-  pub first : StartFrom (last_end 0 (calls_in pieces) - window) (take place calls)
   pub line_is : slice_get lines place ≡ Some line
+  pub before : call.start < bound_after window (calls_in pieces ++ since)
+  pub first : StartFrom (bound_after window (calls_in pieces ++ since)) (take place calls)
 
--- why a stream is not judged: a line is bad, or its call starts too early; or the reader or memory refused something. Open: nothing is said of when there are too many calls, which is if what is kept and the piece would have more than 268,435,456
+-- from the beginning of some reading on there are more calls than a history may have: the bad line is that of the first one too many
+pub record AreTooMany (scope : Scope) (known : Option (List ℕ)) (bad : BadLine) : Type 0 where
+  pub calls : List Call
+  pub lines : List ℕ
+  pub callers : List (List ℕ)
+  pub left : Option (List ℕ)
+  pub progress : Progress
+  pub read : IsReadSoFar scope known left progress calls lines callers
+  pub first : IsFaultFrom left progress (text_by [] [] callers) (Bad bad)
+
+-- a line is the first bad one of these bytes, however many calls there are; or there are too many from some reading on
+pub record IsBadLine (scope : Scope) (bytes : List ℕ) (bad : BadLine) : Type 0 where
+  pub spelled : bad.cause ≢ TooManyCalls → calls_of scope.reading bytes ≡ Err bad
+  pub many : bad.cause ≡ TooManyCalls → AreTooMany scope (Some bytes) bad
+
+-- why a stream is not judged: a line is bad, or its call starts too early; or the reader or memory refused something
 abbrev pub IsStreamFault : Scope → ℕ → Option (List ℕ) → ReadTextFault → Type 0
 IsStreamFault scope window known (Bad bad) =
-    IfSome known (λ bytes. (bad.cause ≢ TooManyCalls → calls_of scope.reading bytes ≡ Err bad) ⊎ ((bad.cause ≡ BeforeWindow) × (left : Option (List ℕ)) × IsBefore scope window known left bad.number))
+    IfSome known (λ bytes. IsBadLine scope bytes bad ⊎ ((bad.cause ≡ BeforeWindow) × IsBefore scope window known bad.number))
 IsStreamFault scope window known ReadFault = Unit {0}
 IsStreamFault scope window known OutOfMemory = Unit {0}

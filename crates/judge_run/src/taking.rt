@@ -1,5 +1,6 @@
 // Reading a piece of a text.
-ghost use Rattle.std.specs.Prelude.{◌≡◌, ◌++◌, IfErr, IfOk, IfSome, OnOk, Option, List, ℕ, length, slice_get};
+ghost use Rattle.std.specs.Prelude.{◌≡◌, ◌++◌, IfErr, IfOk, IfSome, List, ℕ, OnOk, Option, true};
+ghost use Rattle.std.specs.Io.KnownBytes.{IsAtEnd};
 ghost use Rattle.history_text.specs.Pieces.{left_of};
 ghost use Rattle.history_text.specs.Reading.{IsAhead};
 ghost use Rattle.history_text.specs.Text.{text_by};
@@ -26,6 +27,24 @@ pub(crate) fn take_piece<S: BuildHasher + Drop, R: Read>(
     lines: &mut TextReader,
     reader: &mut R,
 ) -> Result<TakenPiece<S>, ReadTextFault>
+    requires { IsAhead lines.old.ahead (R.remaining reader.old) }
+    ensures ahead { IsAhead lines.new.ahead (R.remaining reader.new) }
+    ensures taken { IfOk result (λ taken. (window : ℕ) (known : Option (List ℕ))
+        → IsGoing scope window known (left_of lines.old (R.remaining reader.old)) lines.old
+        (text_by stream.text.history stream.text.lines.items stream.text.callers)
+        stream.bound stream.latest stream.forgotten
+        → IsTaken scope window known (left_of lines.new (R.remaining reader.new)) lines.new
+        (text_by taken.text.history taken.text.lines.items taken.text.callers)
+        taken.latest taken.forgotten) }
+    ensures end { IfOk result (λ taken. taken.over ≡ true → IsAtEnd (R.remaining reader.new)) }
+    ensures over { IfOk result (λ taken. taken.over ≡ true
+        → IfSome (left_of lines.old (R.remaining reader.old))
+        (λ _. IsAtEnd (left_of lines.new (R.remaining reader.new)))) }
+    ensures fault { IfErr result (λ fault. (window : ℕ) (known : Option (List ℕ))
+        → IsGoing scope window known (left_of lines.old (R.remaining reader.old)) lines.old
+        (text_by stream.text.history stream.text.lines.items stream.text.callers)
+        stream.bound stream.latest stream.forgotten
+        → IsStreamFault scope window known fault) }
 {
     let Stream {
         text,
@@ -106,10 +125,8 @@ fn append(history: &mut History, more: &History) -> Result<(), AllocError>
     ensures { OnOk result (history.new ≡ history.old ++ more.now) }
 {
     for position in 0..more.len() {
-        match history.push_ref(&more.at(position)) {
-            Ok(()) => {}
-            Err(refused) => return Err(refused),
-        }
+        let call = more.at(position);
+        history.push_ref(&call)?;
     }
     Ok(())
 }
