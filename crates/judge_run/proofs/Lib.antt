@@ -2,6 +2,7 @@ mod TurnLaws
 mod RowLaws
 mod RunLaws
 mod ScopeLaws
+mod TakingLaws
 mod WarmLaws
 mod TraceLines
 mod ShowLaws

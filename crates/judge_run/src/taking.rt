@@ -125,10 +125,8 @@ fn append(history: &mut History, more: &History) -> Result<(), AllocError>
     ensures { OnOk result (history.new ≡ history.old ++ more.now) }
 {
     for position in 0..more.len() {
-        match history.push_ref(&more.at(position)) {
-            Ok(()) => {}
-            Err(refused) => return Err(refused),
-        }
+        let call = more.at(position);
+        history.push_ref(&call)?;
     }
     Ok(())
 }
