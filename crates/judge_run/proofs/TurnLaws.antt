@@ -77,6 +77,7 @@ module _ (form : Form) (scope : Scope) (detail : Detail) (least : ℕ) (headed :
   }
 
   -- one turn more
-  pub next_turn : (others : List (List ℕ)) (place : ℕ) (worst : ℕ) (status : ℕ) (input among left old between new : Option (List ℕ)) → place < length others → JudgedInTurn form scope detail least headed (first ∷ take place others) input among old between worst → JudgedFile form scope detail least headed (get_or others place []) among left between new status → JudgedInTurn form scope detail least headed (first ∷ take (place + 1) others) input left old new (worse_of worst status)
-  next_turn others place worst status input among left old between new less turn judged =
-      subst (λ (files : List (List ℕ)). JudgedInTurn form scope detail least headed (first ∷ files) input left old new (worse_of worst status)) (sym (take_more others place [] less)) (grown (take place others) turn.statuses worst (get_or others place []) status input among left old between new turn.are turn.status_is judged)
+  pub next_turn : (others : List (List ℕ)) (place : ℕ) (file : List ℕ) (worst : ℕ) (status : ℕ) (input among left old between new : Option (List ℕ)) → place < length others → file ≡ get_or others place file → JudgedInTurn form scope detail least headed (first ∷ take place others) input among old between worst → JudgedFile form scope detail least headed file among left between new status → JudgedInTurn form scope detail least headed (first ∷ take (place + 1) others) input left old new (worse_of worst status)
+  next_turn others place file worst status input among left old between new less is turn judged =
+      let more : take (place + 1) others ≡ take place others ++ file ∷ [] = take_more others place file less ∙ ap (λ (f : List ℕ). take place others ++ f ∷ []) (sym is) in
+      subst (λ (files : List (List ℕ)). JudgedInTurn form scope detail least headed (first ∷ files) input left old new (worse_of worst status)) (sym more) (grown (take place others) turn.statuses worst file status input among left old between new turn.are turn.status_is judged)
