@@ -46,7 +46,7 @@ def of_cache():
         client = it.client()
         client.ask(b"set a 0 0 1\r\n1\r\nget a\r\nget b\r\n", b"STORED\r\nVALUE a 0 1\r\n1\r\nEND\r\nEND\r\n")
         own = {name: int(value) for name, value in client.stats().items() if name.startswith("kangaroo_")}
-        expect(len(own) == 38, f"{len(own)} counters")
+        expect(len(own) == 39, f"{len(own)} counters")
 
 
 @shows("stats reset sets counts to 0, and stats settings has what the command line said")
