@@ -1,7 +1,8 @@
 -- What is asked of files, by the rows of what was found.
-use Rattle.std.proofs.Common.{◌≡◌, ◌∙◌, ℕ, Bool, IsSome, List, Option, Some, None, ap, codes, option_map, sym}
-use Rattle.clap.specs.Words.{Row, Text, first_of}
-use Rattle.command_line.specs.CommandLine.{Checked, Judged, Judging, Shown, Wanted, check_wanted, is_on, judge_wanted_of, judging_of, show_wanted}
+use Rattle.std.proofs.Common.{◌≡◌, ◌∙◌, ◌∷◌, [], ℕ, Bool, true, false, IsSome, List, Option, Some, None, ap, codes, option_and_then, option_map, refl, subst, sym}
+use Rattle.clap.specs.Words.{Row, Text, all_of, first_of}
+use Rattle.history_text.specs.declared.share.Share.{Share}
+use Rattle.command_line.specs.CommandLine.{Checked, Judged, Shown, Wanted, can_follow, check_wanted, is_on, judge_wanted_of, judge_wanted_on, judging_of, show_wanted}
 
 -- with no file nothing is asked for
 no_file : (f : Text → Wanted) (file : Option Text) → None ≡ file → IsSome (option_map f file) → ⊥
@@ -12,9 +13,6 @@ module _ (rows : List Row) where
   pub no_check : None ≡ first_of (codes "FILE") rows → IsSome (check_wanted rows) → ⊥
   no_check is some = no_file _ (first_of (codes "FILE") rows) is some
 
-  pub no_judging : (least skew : ℕ) → None ≡ first_of (codes "FILE") rows → IsSome (judge_wanted_of rows least skew) → ⊥
-  no_judging least skew is some = no_file _ (first_of (codes "FILE") rows) is some
-
   pub no_showing : None ≡ first_of (codes "FILE") rows → IsSome (show_wanted rows) → ⊥
   no_showing is some = no_file _ (first_of (codes "FILE") rows) is some
 
@@ -24,12 +22,28 @@ module _ (rows : List Row) where
         ap (option_map (λ f. Checked f (is_on (codes "explain") rows) (is_on (codes "json") rows) (first_of (codes "picture") rows))) (sym found)
         ∙ (λ i. Some (Checked file (sym e i) (sym j i) (sym p i)))
 
-    pub asks_judging : (asked : Judging) → asked.file ≡ file → asked.explain ≡ is_on (codes "explain") rows → asked.all ≡ is_on (codes "all") rows → asked.json ≡ is_on (codes "json") rows → asked.picture ≡ first_of (codes "picture") rows → asked.trace ≡ first_of (codes "trace") rows → asked.junit ≡ first_of (codes "junit") rows → asked.warm ≡ is_on (codes "warm") rows → judge_wanted_of rows asked.least asked.skew ≡ Some (Judged asked)
-    asks_judging asked f e a j p t u w =
-        ap (option_map (λ (name : Text). Judged (judging_of rows asked.least asked.skew name))) (sym found)
-        ∙ (λ i. Some (Judged (record { file = sym f i; explain = sym e i; all = sym a i; json = sym j i; picture = sym p i; trace = sym t i; junit = sym u i; least = asked.least; skew = asked.skew; warm = sym w i })))
-
     pub asks_showing : (key : Option Text) → key ≡ first_of (codes "key") rows → show_wanted rows ≡ Some (Shown file key)
     asks_showing key k =
         ap (option_map (λ f. Shown f (first_of (codes "key") rows))) (sym found)
         ∙ ap (λ (word : Option Text). Some (Shown file word)) (sym k)
+
+-- ---- judging
+
+module _ (rows : List Row) (least skew : ℕ) (share : Share) where
+  -- with no files nothing is asked for
+  pub no_judging : None ≡ all_of (codes "FILE") rows → IsSome (judge_wanted_of rows least skew share) → ⊥
+  no_judging none some =
+      let bad : IsSome (option_and_then (judge_wanted_on rows least skew share) None) = subst (λ (files : Option (List Text)). IsSome (option_and_then (judge_wanted_on rows least skew share) files)) (sym none) some in absurd cc
+
+  -- what is asked is asked of the files that were found
+  pub of_files : (files : List Text) → Some files ≡ all_of (codes "FILE") rows → judge_wanted_of rows least skew share ≡ judge_wanted_on rows least skew share files
+  of_files files found = ap (option_and_then (judge_wanted_on rows least skew share)) (sym found)
+
+  pub asks_judging : (files : List Text) (file : Text) (others : List Text) → files ≡ file ∷ others → can_follow rows files ≡ true → judge_wanted_on rows least skew share files ≡ Some (Judged (judging_of rows least skew share file others))
+  asks_judging files file others are can =
+      let follows : can_follow rows (file ∷ others) ≡ true = subst (λ (fs : List Text). can_follow rows fs ≡ true) are can in
+      ap (judge_wanted_on rows least skew share) are ∙ (rw follows refl)
+
+  pub asks_nothing : (files : List Text) → can_follow rows files ≡ false → judge_wanted_on rows least skew share files ≡ None
+  asks_nothing [] not_all = refl
+  asks_nothing (file ∷ others) not_all = rw not_all refl

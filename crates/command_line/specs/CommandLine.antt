@@ -1,12 +1,15 @@
 -- The program's command line: what it takes, and what its words ask for.
-use Rattle.std.specs.Prelude.{◌≡◌, ◌≢◌, ◌⊎◌, ◌&&◌, ◌||◌, ℕ, Bool, List, [], ◌∷◌, Option, Some, None, codes, fold, is_some, map, nat_le, nat_lt, not, option_and_then, option_map, string_bytes, true, false, unwrap_or, if◌then◌else◌}
-use Rattle.std.specs.List.{find, list_all}
+use Rattle.std.specs.Prelude.{◌≡◌, ◌≢◌, ◌⊎◌, ◌&&◌, ◌||◌, ◌==◌, ℕ, Bool, List, [], ◌∷◌, Option, Some, None, codes, count_by, fold, is_some, length, map, nat_le, nat_lt, not, option_and_then, option_map, string_bytes, true, false, unwrap_or, if◌then◌else◌}
+use Rattle.std.specs.List.{after_first, before_first, find, list_all}
 use Rattle.std.specs.Option.{option_map_or}
 use Rattle.std.specs.Str.{bytes_eq}
-use Rattle.clap.specs.Words.{App, IsAmong, Kinds, Row, Rule, Text, first_of, new_app, new_rule, subcommand_of, with_rule, with_subcommand}
-use Rattle.clap.specs.declared.builder.action.ArgAction.TheVariants.{SetTrue}
+use Rattle.clap.specs.Lexer.{usize_max}
+use Rattle.clap.specs.Words.{App, IsAmong, Kinds, Row, Rule, Text, all_of, first_of, new_app, new_rule, subcommand_of, with_rule, with_subcommand}
+use Rattle.clap.specs.declared.builder.action.ArgAction.TheVariants.{Append, SetTrue}
 use Rattle.clap.specs.declared.error.kind.ErrorKind.{ErrorKind}
 use Rattle.clap.specs.declared.error.kind.ErrorKind.TheVariants.{DisplayHelp, DisplayVersion}
+use Rattle.history_text.specs.declared.share.Share.{Share}
+use Rattle.history_text.specs.Readings.{share_by}
 use Rattle.load.specs.Asked.{numbers_of, served_numbers_of}
 use Rattle.load.specs.Settings.{bytes_in, is_decimal, number_in, row_of, served_settings, settings, shape_settings, value_of_text}
 use Rattle.load.specs.Sizes.{name_of}
@@ -23,6 +26,10 @@ use Rattle.command_line.specs.declared.line_fault.LineFault.TheVariants.{Usage, 
 -- the file that is to be checked
 abbrev pub file_rule : Rule
 file_rule = record (new_rule (codes "FILE")) { required = true }
+
+-- the files that are to be judged, one at least
+abbrev pub files_rule : Rule
+files_rule = record (new_rule (codes "FILE")) { range = Some (record { start_inclusive = 1; end_inclusive = usize_max }); action = Some Append; required = true }
 
 -- the option of a setting: its name, and one value
 abbrev pub option_rule : Setting → Rule
@@ -84,25 +91,41 @@ skew_rule = record (new_rule (codes "skew")) { long = Some (codes "skew"); value
 abbrev pub warm_rule : Rule
 warm_rule = record (new_rule (codes "warm")) { long = Some (codes "warm"); action = Some SetTrue }
 
+-- which keys' calls are judged
+abbrev pub keys_rule : Rule
+keys_rule = record (new_rule (codes "keys")) { long = Some (codes "keys"); value_names = 1 }
+
+-- whether bad lines are passed over
+abbrev pub skip_rule : Rule
+skip_rule = record (new_rule (codes "skip-bad")) { long = Some (codes "skip-bad"); action = Some SetTrue }
+
 -- the key whose calls alone are written
 abbrev pub key_rule : Rule
 key_rule = record (new_rule (codes "key")) { long = Some (codes "key"); value_names = 1 }
 
--- a command that judges the history in a file, with two flags and an option
+-- a command that judges a history, with two flags and an option
 abbrev pub with_history : App → App
-with_history app = with_rule (with_rule (with_rule (with_rule app file_rule) explain_rule) json_rule) picture_rule
+with_history app = with_rule (with_rule (with_rule app explain_rule) json_rule) picture_rule
 
 -- check FILE, with two flags and an option
 abbrev pub check_command : App
-check_command = with_history (new_app (codes "check"))
+check_command = with_history (with_rule (new_app (codes "check")) file_rule)
 
 -- a command with a flag for all faults, and options for the trace and the JUnit file that are to be written
 abbrev pub with_listing : App → App
 with_listing app = with_rule (with_rule (with_rule app all_rule) out_rule) junit_rule
 
--- judge FILE, with four flags and five options
+-- a command with options for how many calls there have to be and how wrong stamps may be, and a flag for values from the start
+abbrev pub with_scope : App → App
+with_scope app = with_rule (with_rule (with_rule app least_rule) skew_rule) warm_rule
+
+-- a command with an option for the keys whose calls are judged, and a flag for bad lines
+abbrev pub with_reading : App → App
+with_reading app = with_rule (with_rule app keys_rule) skip_rule
+
+-- judge FILE.., with five flags and six options
 abbrev pub judge_command : App
-judge_command = with_rule (with_rule (with_rule (with_listing (with_history (new_app (codes "judge")))) least_rule) skew_rule) warm_rule
+judge_command = with_reading (with_scope (with_listing (with_history (with_rule (new_app (codes "judge")) files_rule))))
 
 -- show FILE, with an option
 abbrev pub show_command : App
@@ -144,12 +167,13 @@ program = with_loads (with_judging scripts_program)
 
 -- ---- what its words ask for
 
--- a history that is to be judged: its file; whether it is said why it is rejected, whether all its faults are listed, and whether that
+-- a history that is to be judged: its file, and those of further ones; whether it is said why it is rejected, whether all its faults are listed, and whether that
 -- is told as a JSON object; the files that a picture of why it is rejected is drawn to, that it is written to as a trace, and that what
 -- came of it is written to as JUnit has it, if they are named; how many calls it has to have if it is accepted; by how much its stamps may differ from the truth;
--- and whether values may have been there from the start
+-- whether values may have been there from the start; which keys' calls are judged; and whether bad lines are passed over
 pub record Judging : Type 0 where
   pub file : Text
+  pub others : List Text
   pub explain : Bool
   pub all : Bool
   pub json : Bool
@@ -159,6 +183,8 @@ pub record Judging : Type 0 where
   pub least : ℕ
   pub skew : ℕ
   pub warm : Bool
+  pub share : Share
+  pub skip_bad : Bool
 
 -- that a script is answered; that the trace in a file of this name is judged, with why it is rejected if the first flag is on, told as
 -- a JSON object if the second is, and drawn to this file if one is named; that a history is judged; that the trace in a file of this name is written as text, only the calls of this
@@ -180,6 +206,7 @@ wanted_of Script = Replies
 wanted_of (Check request) = Checked request.file request.explain request.json request.picture
 wanted_of (Judge request) = Judged (record {
   file = request.file;
+  others = request.others.items;
   explain = request.detail.explain;
   all = request.detail.all;
   json = request.json;
@@ -189,6 +216,8 @@ wanted_of (Judge request) = Judged (record {
   least = request.at_least;
   skew = request.scope.skew;
   warm = request.scope.warm;
+  share = request.scope.reading.share;
+  skip_bad = request.scope.reading.skip_bad;
 })
 wanted_of (Show request) = Shown request.file (option_map string_bytes request.key)
 wanted_of (Run load) = Loaded (numbers_of load) load.json load.device load.trace
@@ -223,10 +252,40 @@ least_found rows = number_found_to (codes "at-least") 268435456 rows
 abbrev pub skew_found : List Row → Option ℕ
 skew_found rows = number_found_to (codes "skew") 9223372036854775807 rows
 
--- the judging that was found of the history in a file, of which an accepted one has to have so many calls, with stamps that may differ by so much
-abbrev pub judging_of : List Row → ℕ → ℕ → Text → Judging
-judging_of rows least skew file = record {
+-- the share of keys that two numbers write
+abbrev pub share_from : ℕ → ℕ → Option Share
+share_from part of = if nat_lt part of then Some (share_by part of) else None
+
+-- the share of keys that a text writes: two numbers below 2^32 with a slash between them, of which the first is less
+abbrev pub share_in : Text → Option Share
+share_in text =
+    option_and_then (λ part. option_and_then (share_from part) (number_to 4294967295 (after_first (λ b. b == 47) text))) (number_to 4294967295 (before_first (λ b. b == 47) text))
+
+-- the share of keys whose calls are judged: all if none is given
+abbrev pub share_given : Option Text → Option Share
+share_given None = Some (share_by 0 1)
+share_given (Some text) = share_in text
+
+abbrev pub share_found : List Row → Option Share
+share_found rows = share_given (first_of (codes "keys") rows)
+
+-- a file name that means the standard input
+abbrev pub is_input : Text → Bool
+is_input file = bytes_eq file (codes "-")
+
+-- a file is to be written beside the verdict
+abbrev pub has_output : List Row → Bool
+has_output rows = is_some (first_of (codes "trace") rows) || (is_some (first_of (codes "picture") rows) || is_some (first_of (codes "junit") rows))
+
+-- these files can be judged in turn: the standard input is one of them once at most, and if there are several, no file is to be written beside the verdicts
+abbrev pub can_follow : List Row → List Text → Bool
+can_follow rows files = nat_le (count_by is_input files) 1 && not (nat_lt 1 (length files) && has_output rows)
+
+-- the judging that was found of the history in a file, and of those in others, of which an accepted one has to have so many calls, with stamps that may differ by so much, of a share of keys
+abbrev pub judging_of : List Row → ℕ → ℕ → Share → Text → List Text → Judging
+judging_of rows least skew share file others = record {
   file = file;
+  others = others;
   explain = is_on (codes "explain") rows;
   all = is_on (codes "all") rows;
   json = is_on (codes "json") rows;
@@ -236,14 +295,26 @@ judging_of rows least skew file = record {
   least = least;
   skew = skew;
   warm = is_on (codes "warm") rows;
+  share = share;
+  skip_bad = is_on (codes "skip-bad") rows;
 }
 
-abbrev pub judge_wanted_of : List Row → ℕ → ℕ → Option Wanted
-judge_wanted_of rows least skew = option_map (λ file. Judged (judging_of rows least skew file)) (first_of (codes "FILE") rows)
+-- what is asked of these files
+abbrev pub judge_wanted_on : List Row → ℕ → ℕ → Share → List Text → Option Wanted
+judge_wanted_on rows least skew share [] = None
+judge_wanted_on rows least skew share (file ∷ others) = if can_follow rows (file ∷ others) then Some (Judged (judging_of rows least skew share file others)) else None
+
+-- what is asked of the files that were found
+abbrev pub judge_wanted_of : List Row → ℕ → ℕ → Share → Option Wanted
+judge_wanted_of rows least skew share = option_and_then (judge_wanted_on rows least skew share) (all_of (codes "FILE") rows)
+
+-- the same, by the share of keys that was found
+abbrev pub judge_wanted_in : List Row → ℕ → ℕ → Option Wanted
+judge_wanted_in rows least skew = option_and_then (judge_wanted_of rows least skew) (share_found rows)
 
 -- the same, unless a trace is to be written of calls whose stamps may differ, or of puts that were added
 abbrev pub judge_wanted_by : List Row → ℕ → ℕ → Option Wanted
-judge_wanted_by rows least skew = if is_some (first_of (codes "trace") rows) && (nat_lt 0 skew || is_on (codes "warm") rows) then None else judge_wanted_of rows least skew
+judge_wanted_by rows least skew = if is_some (first_of (codes "trace") rows) && (nat_lt 0 skew || is_on (codes "warm") rows) then None else judge_wanted_in rows least skew
 
 -- the judging that was found
 abbrev pub judge_wanted_with : List Row → ℕ → Option Wanted

@@ -1,13 +1,15 @@
 // What was found for the arguments of a subcommand that reads a file.
 ghost use Rattle.std.specs.Prelude.{◌≡◌, ◌||◌, nat_lt, IfOk, IfErr, IsSome, Some, codes, is_some, option_map, string_bytes};
 ghost use Rattle.clap.specs.Words.{first_of, found_of, rows_of};
-ghost use Rattle.command_line.specs.CommandLine.{check_wanted, is_on, judge_wanted, judge_wanted_by, judge_wanted_of, judge_wanted_with, number_found_to, number_to, show_wanted, wanted_of, IsUsage};
+ghost use Rattle.command_line.specs.CommandLine.{check_wanted, is_on, judge_wanted, judge_wanted_by, judge_wanted_in, judge_wanted_with, number_found_to, number_to, share_found, share_in, show_wanted, wanted_of, IsUsage};
 
+use crate::asked_judging::judging_line;
 use crate::line::Line;
 use crate::line_fault::LineFault;
-use crate::telling::{no_file, no_number_to, not_with_trace};
+use crate::telling::{no_file, no_number_to, no_share, not_with_trace};
 use clap::ArgMatches;
-use judge_run::{CheckRequest, Detail, JudgeRequest, Scope, ShowRequest};
+use history_text::Share;
+use judge_run::{CheckRequest, ShowRequest};
 use std::alloc::{AllocError, Global};
 use trace_file::FileName;
 
@@ -16,6 +18,9 @@ const MOST_CALLS: u64 = 268435456;
 
 /// The most by which a stamp may differ from the truth: the greatest stamp of a text.
 const MOST_SKEW: u64 = 9223372036854775807;
+
+/// The most shares of keys.
+const MOST_SHARES: u64 = 4294967295;
 
 /// The text that was found for an option, to be repeated; an empty one if none was.
 pub(crate) fn given<'a>(found: &ArgMatches<'a>, option: &str) -> &'a str {
@@ -112,6 +117,32 @@ fn number_of<'a>(found: &ArgMatches<'a>, option: &str, most: u64) -> Option<u64>
     }
 }
 
+/// The share of keys that a text writes, as in 2/8; none if it writes none.
+fn share_in(text: &str) -> Option<Share>
+    ensures { result ≡ share_in text.now }
+{
+    let Some((part, of)) = text.split_once('/') else {
+        return None;
+    };
+    let Some(part) = number_to(part, MOST_SHARES) else {
+        return None;
+    };
+    let Some(of) = number_to(of, MOST_SHARES) else {
+        return None;
+    };
+    Share::new(part as u32, of as u32)
+}
+
+/// The share of keys whose calls are judged, all if none is given; none if what is given is no share.
+fn share_of<'a>(found: &ArgMatches<'a>) -> Option<Share>
+    ensures { result ≡ share_found (rows_of (found_of found.now)) }
+{
+    match found.get_str("keys") {
+        Some(text) => share_in(text),
+        None => Some(Share::ALL),
+    }
+}
+
 /// What `judge` asks for.
 pub(crate) fn judge_line<'a>(alloc: Global, found: &ArgMatches<'a>) -> Result<Line, LineFault>
     ensures named { IfOk result (λ line. judge_wanted (rows_of (found_of found.now)) ≡ Some (wanted_of line)) }
@@ -166,9 +197,31 @@ fn judge_line_by<'a>(
     if has_trace(found) && is_changed(found, skew) {
         return Err(untraced(alloc, skew));
     }
-    match judging_line(alloc, found, at_least, skew) {
+    match judge_line_in(alloc, found, at_least, skew) {
         Ok(line) => Ok(line),
         Err(fault) => Err(fault),
+    }
+}
+
+/// The same, if no trace is written of other calls than those that were recorded.
+fn judge_line_in<'a>(
+    alloc: Global,
+    found: &ArgMatches<'a>,
+    at_least: u64,
+    skew: u64,
+) -> Result<Line, LineFault>
+    ensures named { IfOk result (λ line.
+        judge_wanted_in (rows_of (found_of found.now)) at_least skew ≡ Some (wanted_of line)) }
+    ensures refused { IfErr result (λ fault. IsUsage fault) }
+    ensures taken { IsSome (judge_wanted_in (rows_of (found_of found.now)) at_least skew)
+        → IfErr result (λ fault. fault ≡ LineFault.OutOfMemory) }
+{
+    match share_of(found) {
+        Some(share) => match judging_line(alloc, found, at_least, skew, share) {
+            Ok(line) => Ok(line),
+            Err(fault) => Err(fault),
+        },
+        None => Err(no_share(alloc, given(found, "keys"))),
     }
 }
 
@@ -199,42 +252,6 @@ fn has_trace<'a>(found: &ArgMatches<'a>) -> bool
         Some(_) => true,
         None => false,
     }
-}
-
-/// The same, if the options may stand together.
-fn judging_line<'a>(
-    alloc: Global,
-    found: &ArgMatches<'a>,
-    at_least: u64,
-    skew: u64,
-) -> Result<Line, LineFault>
-    ensures named { IfOk result (λ line.
-        judge_wanted_of (rows_of (found_of found.now)) at_least skew ≡ Some (wanted_of line)) }
-    ensures refused { IfErr result (λ fault. IsUsage fault) }
-    ensures taken { IsSome (judge_wanted_of (rows_of (found_of found.now)) at_least skew)
-        → IfErr result (λ fault. fault ≡ LineFault.OutOfMemory) }
-{
-    let Some(file) = found.get_str("FILE") else {
-        return Err(no_file(alloc, "judge"));
-    };
-    let file = FileName::new(alloc, file)?;
-    let explain = is_on(found, "explain");
-    let all = is_on(found, "all");
-    let json = is_on(found, "json");
-    let picture = file_found(alloc, found, "picture")?;
-    let trace = file_found(alloc, found, "trace")?;
-    let junit = file_found(alloc, found, "junit")?;
-    let warm = is_on(found, "warm");
-    Ok(Line::Judge(JudgeRequest {
-        file,
-        detail: Detail { explain, all },
-        json,
-        picture,
-        trace,
-        junit,
-        at_least,
-        scope: Scope { skew, warm },
-    }))
 }
 
 /// What `show` asks for.

@@ -31,7 +31,7 @@ pub const CHECK: Help = Help {
 /// That of `judge`.
 pub const JUDGE: Help = Help {
     about: "Check a history given as text, one call per line",
-    notes: "Use it on the log of any cache or store that put, got and removed values by key. It looks for an\norder of the calls in which each hit reads the latest put of its key. A line is one of:\n  CALLER START END put KEY VALUE [EXPIRES]    CALLER START END hit KEY VALUE [MOMENT]\n  CALLER START END remove KEY                 CALLER START END miss KEY\n\nExample:\n  printf 'alice 10 20 put color red\\nbob 12 30 hit color red\\n' | kangaroo judge -\n\nExit status: 0 accepted, 1 rejected, 2 a bad line or too few calls, 3 memory, a file or the\n             system failed, 4 undecided\nManual: man kangaroo, or docs/CLI.md",
+    notes: "Use it on the log of any cache or store that put, got and removed values by key. It looks for an\norder of the calls in which each hit reads the latest put of its key. A line is one of:\n  CALLER START END put KEY VALUE [EXPIRES]    CALLER START END hit KEY VALUE [MOMENT]\n  CALLER START END remove KEY                 CALLER START END miss KEY\n\nExample:\n  printf 'alice 10 20 put color red\\nbob 12 30 hit color red\\n' | kangaroo judge -\n\nExit status: 0 accepted, 1 rejected, 2 a bad line or too few calls, 3 memory, a file or the\n             system failed, 4 undecided; of several files the first of 3, 2, 1, 4 and 0\nManual: man kangaroo, or docs/CLI.md",
 };
 
 /// That of `show`.

@@ -3,6 +3,7 @@
 
 mod answering;
 mod asked_file;
+mod asked_judging;
 mod asked_load;
 mod asking;
 mod ending;

@@ -1,7 +1,7 @@
 // The program's command line, as `clap` reads it.
 ghost use Rattle.std.specs.Prelude.{◌≡◌, IfOk, false};
 ghost use Rattle.clap.specs.Words.{app_of, new_app, rule_of};
-ghost use Rattle.command_line.specs.CommandLine.{all_rule, check_command, device_rule, explain_rule, file_rule, json_rule, judge_command, junit_rule, key_rule, least_rule, option_rule, out_rule, picture_rule, program, run_command, script_command, scripts_program, serve_command, show_command, size_rule, skew_rule, trace_rule, warm_rule, with_history, with_judging, with_listing, with_loads, zipf_rule};
+ghost use Rattle.command_line.specs.CommandLine.{all_rule, check_command, device_rule, explain_rule, file_rule, files_rule, json_rule, judge_command, junit_rule, key_rule, keys_rule, least_rule, option_rule, out_rule, picture_rule, program, run_command, script_command, scripts_program, serve_command, show_command, size_rule, skew_rule, skip_rule, trace_rule, warm_rule, with_history, with_judging, with_listing, with_loads, with_reading, with_scope, zipf_rule};
 
 use crate::help;
 use crate::help::Help;
@@ -78,7 +78,8 @@ fn check<'a>(alloc: Global) -> Result<Command<'a>, AllocError>
     ensures { IfOk result (λ c. app_of c ≡ check_command) }
 {
     let check = command(alloc, "check", &help::CHECK);
-    match with_history(alloc, check, "File of the trace, or - for standard input") {
+    let check = check.arg(file(alloc, "File of the trace, or - for standard input"))?;
+    match with_history(alloc, check) {
         Ok(check) => Ok(check),
         Err(refused) => Err(refused),
     }
@@ -89,11 +90,31 @@ pub fn judge<'a>(alloc: Global) -> Result<Command<'a>, AllocError>
     ensures { IfOk result (λ c. app_of c ≡ judge_command) }
 {
     let judge = command(alloc, "judge", &help::JUDGE);
-    let judge = with_history(alloc, judge, "File of the text, or - for standard input")?;
+    let judge = judge.arg(files(alloc))?;
+    let judge = with_history(alloc, judge)?;
     let listed = with_listing(alloc, judge)?;
-    let counted = listed.arg(at_least(alloc))?;
+    let scoped = with_scope(alloc, listed)?;
+    match with_reading(alloc, scoped) {
+        Ok(judge) => Ok(judge),
+        Err(refused) => Err(refused),
+    }
+}
+
+/// A command that asks for so many calls, allows for clocks that differ, and takes values as there from the start if that is wanted.
+fn with_scope<'a>(alloc: Global, command: Command<'a>) -> Result<Command<'a>, AllocError>
+    ensures { IfOk result (λ c. app_of c ≡ with_scope (app_of command.entry)) }
+{
+    let counted = command.arg(at_least(alloc))?;
     let widened = counted.arg(skew(alloc))?;
     widened.arg(warm(alloc))
+}
+
+/// A command that judges the calls of some keys, and passes over bad lines if that is wanted.
+fn with_reading<'a>(alloc: Global, command: Command<'a>) -> Result<Command<'a>, AllocError>
+    ensures { IfOk result (λ c. app_of c ≡ with_reading (app_of command.entry)) }
+{
+    let shared = command.arg(keys(alloc))?;
+    shared.arg(skip_bad(alloc))
 }
 
 /// A command that lists all faults if that is wanted, and writes a trace and a JUnit file.
@@ -105,15 +126,10 @@ fn with_listing<'a>(alloc: Global, command: Command<'a>) -> Result<Command<'a>, 
     traced.arg(junit(alloc))
 }
 
-/// A command that judges the history in a file, which means this.
-fn with_history<'a>(
-    alloc: Global,
-    command: Command<'a>,
-    meaning: &'a str,
-) -> Result<Command<'a>, AllocError>
+/// A command that judges a history.
+fn with_history<'a>(alloc: Global, command: Command<'a>) -> Result<Command<'a>, AllocError>
     ensures { IfOk result (λ c. app_of c ≡ with_history (app_of command.entry)) }
 {
-    let command = command.arg(file(alloc, meaning))?;
     let explained = command.arg(explain(alloc))?;
     let told = explained.arg(json(alloc))?;
     told.arg(picture(alloc))
@@ -134,6 +150,18 @@ fn file<'a>(alloc: Global, meaning: &'a str) -> Arg<'a>
     ensures local { result.global ≡ false }
 {
     Arg::new(alloc, "FILE").required(true).help(meaning)
+}
+
+/// The files that are to be judged.
+fn files<'a>(alloc: Global) -> Arg<'a>
+    ensures rule { rule_of result ≡ files_rule }
+    ensures local { result.global ≡ false }
+{
+    Arg::new(alloc, "FILE")
+        .num_args(1usize..)
+        .action(ArgAction::Append)
+        .required(true)
+        .help("Files of the texts, each judged by itself, or - for standard input")
 }
 
 /// Whether it is said why a history is rejected.
@@ -237,6 +265,27 @@ fn warm<'a>(alloc: Global) -> Arg<'a>
         .long("warm")
         .action(ArgAction::SetTrue)
         .help("Take values that were read and never put as there from the start,\none of a key")
+}
+
+/// Which keys' calls are judged.
+fn keys<'a>(alloc: Global) -> Arg<'a>
+    ensures rule { rule_of result ≡ keys_rule }
+    ensures local { result.global ≡ false }
+{
+    Arg::new(alloc, "keys").long("keys").value_name("P/Q").help(
+        "Judge one in Q keys: those whose hash leaves the remainder P, which is\nless than Q. With 0/Q to Q-1/Q each key is judged once.",
+    )
+}
+
+/// Whether bad lines are passed over.
+fn skip_bad<'a>(alloc: Global) -> Arg<'a>
+    ensures rule { rule_of result ≡ skip_rule }
+    ensures local { result.global ≡ false }
+{
+    Arg::new(alloc, "skip-bad")
+        .long("skip-bad")
+        .action(ArgAction::SetTrue)
+        .help("Pass over lines that are not calls, and count them")
 }
 
 /// The key whose calls alone are written.

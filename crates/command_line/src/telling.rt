@@ -113,6 +113,61 @@ pub fn no_number_to(alloc: Global, option: &'static str, most: u64, given: &str)
     no_range(alloc, Loading::Judge, &range, given)
 }
 
+/// What is reported if the standard input is to be judged twice.
+pub fn input_twice(alloc: Global) -> LineFault
+    ensures { IsUsage result }
+{
+    conflict(
+        alloc,
+        "- can be given once only, since the standard input is read once",
+    )
+}
+
+/// What is reported if a file is to be written beside the verdicts of several files.
+pub fn not_with_files(alloc: Global) -> LineFault
+    ensures { IsUsage result }
+{
+    conflict(
+        alloc,
+        "--trace, --picture and --junit write one file, so they take one FILE: judge each by a command of its own",
+    )
+}
+
+/// What is reported of words of `judge` that don't go together.
+fn conflict(alloc: Global, message: &str) -> LineFault
+    ensures { IsUsage result }
+{
+    match conflict_error(alloc, message) {
+        Ok(error) => usage_of(alloc, &error),
+        Err(_) => LineFault::OutOfMemory,
+    }
+}
+
+/// The same, as `clap` words it.
+fn conflict_error(alloc: Global, message: &str) -> Result<clap::Error, AllocError> {
+    let mut command = judge(alloc)?.bin_name("kangaroo judge")?;
+    command.error(ErrorKind::ArgumentConflict, message)
+}
+
+/// What is reported if the text that was given for the keys of `judge` is no share of them.
+pub fn no_share(alloc: Global, given: &str) -> LineFault
+    ensures { IsUsage result }
+{
+    match share_error(alloc, given) {
+        Ok(error) => usage_of(alloc, &error),
+        Err(_) => LineFault::OutOfMemory,
+    }
+}
+
+/// The same, as `clap` words it.
+fn share_error(alloc: Global, given: &str) -> Result<clap::Error, AllocError> {
+    let mut command = judge(alloc)?.bin_name("kangaroo judge")?;
+    let message = format!(in alloc;
+        "--keys takes P/Q, as in 0/8, where P is less than Q and Q at most 4294967295, not `{given}`"
+    )?;
+    command.error(ErrorKind::ValueValidation, message.as_str())
+}
+
 /// What is reported if a trace is to be written with this option of `judge`, with which it would hold this.
 pub fn not_with_trace(alloc: Global, option: &str, held: &str) -> LineFault
     ensures { IsUsage result }

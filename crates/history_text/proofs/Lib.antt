@@ -1,4 +1,5 @@
-mod Reading
+mod KeepLaws
+mod PieceLaws
 mod WritingLaws
 mod NameLaws
 mod LineLaws

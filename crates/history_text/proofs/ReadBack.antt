@@ -1,5 +1,5 @@
 -- A history that was written as text reads back.
-use Rattle.std.proofs.Common.{◌≡◌, ℕ, suc, ◌+◌, ◌^◌, ◌<◌, ◌≤◌, Bool, true, false, cond, not, ◌||◌, nat_lt, eqb, List, [], ◌∷◌, ◌++◌, length, All, None, Ok, map, fold, refl, sym, ap, ap₂, ◌∙◌, arith, inl, inr, append_assoc}
+use Rattle.std.proofs.Common.{◌≡◌, ℕ, suc, ◌+◌, ◌^◌, ◌<◌, ◌≤◌, Bool, true, false, cond, not, ◌||◌, nat_lt, eqb, List, [], ◌∷◌, ◌++◌, length, All, None, Result, Ok, map, fold, refl, sym, ap, ap₂, ◌∙◌, arith, inl, inr, append_assoc}
 use Rattle.std.specs.Fmt.{decimal}
 use Rattle.std.specs.List.{IsDistinct, list_any, position_or_len, range_with_len}
 use Rattle.std.specs.Str.{bytes_eq}
@@ -16,8 +16,10 @@ use Rattle.std.proofs.lemmas.Map.Steps.{length-le_from_distinct_below}
 use borrow.Author.Tests.{lt-ltb}
 use Rattle.script_words.specs.Lines.{lines_of}
 use Rattle.trace_file.specs.declared.call.Call.{Call}
+use Rattle.history_text.specs.declared.line_cause.LineCause.{LineCause}
 use Rattle.history_text.specs.ReadingBack.{IsTold, met, name_of, numbered, read_back}
-use Rattle.history_text.specs.Text.{Text, after_line, by_line, call_by, noted, number_of, recorded, text_from, text_of}
+use Rattle.history_text.specs.Readings.{is_in_share, whole}
+use Rattle.history_text.specs.Text.{Text, after_line, by_line, call_by, noted, number_of, of_history, passing, read_by, read_from, recorded, recorded_if, text_of}
 use Rattle.history_text.specs.Writing.{line_where, text_line, written}
 use Rattle.history_text.proofs.Saying.{not_less}
 use Rattle.history_text.proofs.LineTexts.{Reads, line, line_first, line_is, reads, spelled}
@@ -186,14 +188,14 @@ abbrev state : List Call → List ℕ → List ℕ → Text
 state calls lines callers = record { calls = calls; lines = lines; callers = map name_of callers }
 
 -- a line that reads is recorded
-line_after : (text : Text) (number : ℕ) (call : Call) → Reads call → number ≤ 4294967295 → after_line text number (line call) ≡ recorded text number (spelled call)
-unfolding after_line
+line_after : (text : Text) (number : ℕ) (call : Call) → Reads call → number ≤ 4294967295 → after_line of_history whole text number (line call) ≡ recorded of_history text number (spelled call)
+unfolding after_line recorded_if is_in_share
 line_after text number call is few =
     let short : nat_lt 8192 (length (line call)) ≡ false = not_less 8192 (length (line call)) is.fits in
     let early : nat_lt 4294967295 number ≡ false = not_less 4294967295 number few in
     rw (short, early, is.spells) refl
 
-recorded_is : (calls : List Call) (lines callers : List ℕ) (number : ℕ) (call : Call) → Met callers → call.caller < 2 ^ 16 → length calls < 268435456 → recorded (state calls lines callers) number (spelled call) ≡ Ok (state (calls ++ call_by (position_or_len (eqb call.caller) callers) (spelled call) ∷ []) (lines ++ number ∷ []) (met callers call.caller))
+recorded_is : (calls : List Call) (lines callers : List ℕ) (number : ℕ) (call : Call) → Met callers → call.caller < 2 ^ 16 → length calls < 268435456 → recorded of_history (state calls lines callers) number (spelled call) ≡ Ok (state (calls ++ call_by (position_or_len (eqb call.caller) callers) (spelled call) ∷ []) (lines ++ number ∷ []) (met callers call.caller))
 unfolding recorded
 recorded_is calls lines callers number call is small room =
     let numbered = number_named callers call.caller is.small small in
@@ -208,9 +210,9 @@ lines_next call calls is =
     ap lines_of whole ∙ line_first (line call) rest is.within
 
 -- what is read of the calls that are left, after those that were read
-goes : (after calls : List Call) (lines callers : List ℕ) (number : ℕ) → Met callers → All IsTold after → length calls + length after ≤ 268435456 → number ≡ length calls + 1 → text_from (state calls lines callers) number (lines_of (written None after)) ≡ Ok (state (calls ++ map (numbered (fold met callers (map caller_of after))) after) (lines ++ range_with_len number (length after)) (fold met callers (map caller_of after)))
+goes : (after calls : List Call) (lines callers : List ℕ) (number : ℕ) → Met callers → All IsTold after → length calls + length after ≤ 268435456 → number ≡ length calls + 1 → read_from of_history whole (read_by (state calls lines callers) 0) number (lines_of (written None after)) ≡ Ok (read_by (state (calls ++ map (numbered (fold met callers (map caller_of after))) after) (lines ++ range_with_len number (length after)) (fold met callers (map caller_of after))) 0)
 goes [] calls lines callers number is told room at =
-    ap₂ (λ (cs : List Call) (ls : List ℕ). Ok (state cs ls callers)) (sym (append-nil calls)) (sym (append-nil lines))
+    ap₂ (λ (cs : List Call) (ls : List ℕ). Ok (read_by (state cs ls callers) 0)) (sym (append-nil calls)) (sym (append-nil lines))
 goes (call ∷ after) calls lines callers number is told room at =
     let here = All-head IsTold call after told in
     let readable = reads call here in
@@ -218,7 +220,7 @@ goes (call ∷ after) calls lines callers number is told room at =
     let last = fold met callers (map caller_of (call ∷ after)) in
     let new = call_by (position_or_len (eqb call.caller) callers) (spelled call) in
     let same : new ≡ numbered last call = ap (λ n. call_by n (spelled call)) (last_number callers (map caller_of after) call.caller) in
-    let taken : after_line (state calls lines callers) number (line call) ≡ Ok (state (calls ++ new ∷ []) (lines ++ number ∷ []) (met callers call.caller)) =
+    let taken : after_line of_history whole (state calls lines callers) number (line call) ≡ Ok (state (calls ++ new ∷ []) (lines ++ number ∷ []) (met callers call.caller)) =
     line_after (state calls lines callers) number call readable (omega (arith, at, room)) ∙ recorded_is calls lines callers number call is small (omega (arith, room)) in
     let len = length-append calls (new ∷ []) in
     let next : suc number ≡ number + 1 = omega arith in
@@ -227,14 +229,14 @@ goes (call ∷ after) calls lines callers number is told room at =
     append_assoc calls (new ∷ []) (map (numbered last) after) ∙ ap (λ x. calls ++ x ∷ map (numbered last) after) same in
     let all_lines : (lines ++ number ∷ []) ++ range_with_len (suc number) (length after) ≡ lines ++ range_with_len number (length (call ∷ after)) =
     append_assoc lines (number ∷ []) (range_with_len (suc number) (length after)) ∙ ap (λ n. lines ++ number ∷ range_with_len n (length after)) next in
-    ap (text_from (state calls lines callers) number) (lines_next call after readable)
-    ∙ ap (λ said. by_line number said (λ t. text_from t (suc number) (lines_of (written None after)))) taken
+    ap (read_from of_history whole (read_by (state calls lines callers) 0) number) (lines_next call after readable)
+    ∙ ap (λ (said : Result Text LineCause). by_line number (passing whole (read_by (state calls lines callers) 0) said) (λ r. read_from of_history whole r (suc number) (lines_of (written None after)))) taken
     ∙ rest
-    ∙ ap₂ (λ (cs : List Call) (ls : List ℕ). Ok (state cs ls last)) all_calls all_lines
+    ∙ ap₂ (λ (cs : List Call) (ls : List ℕ). Ok (read_by (state cs ls last) 0)) all_calls all_lines
 
 nothing_met : Met []
 unfolding IsDistinct
 nothing_met = record { small = All-nil (λ m. m < 2 ^ 16); apart = tt }
 
-pub histories_read : (calls : List Call) → length calls ≤ 268435456 → All IsTold calls → text_of (written None calls) ≡ Ok (read_back calls)
+pub histories_read : (calls : List Call) → length calls ≤ 268435456 → All IsTold calls → text_of whole (written None calls) ≡ Ok (read_by (read_back calls) 0)
 histories_read calls most told = goes calls [] [] [] 1 nothing_met told (omega (arith, most)) refl

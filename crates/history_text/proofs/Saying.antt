@@ -8,7 +8,7 @@ use Rattle.history_text.specs.declared.text_fault.TextFault.TheVariants.{Bad, Ou
 use Rattle.history_text.specs.Outcome.{IsRefused}
 use Rattle.history_text.specs.Spelled.{IsSaid}
 use Rattle.history_text.specs.Spelling.{Spelled, ◌>>=◌}
-use Rattle.history_text.specs.Text.{Text, number_of, recorded}
+use Rattle.history_text.specs.Text.{Text, number_of, of_history, recorded}
 
 pub said_on : {A B : Type 0} (said : Result A LineCause) (rest : A → Result B LineCause) (fault : TextFault) → IsSaid said fault → IsSaid (said >>= rest) fault
 said_on said rest (Bad cause) is = ap (λ r. r >>= rest) is
@@ -20,7 +20,7 @@ not_less a b least = elim (cases_Bool (ltb a b)) [
   | inr fails ↦ fails
 ]
 
-pub said_caller : (text : Text) (number : ℕ) (s : Spelled) (fault : TextFault) → length text.calls < 268435456 → IsRefused (number_of text.callers s.caller) fault → IsSaid (recorded text number s) fault
+pub said_caller : (text : Text) (number : ℕ) (s : Spelled) (fault : TextFault) → length text.calls < 268435456 → IsRefused (number_of text.callers s.caller) fault → IsSaid (recorded of_history text number s) fault
 unfolding recorded
 said_caller text number s (Bad cause) few is =
     let calls = lt-ltb (length text.calls) 268435456 few in

@@ -3,7 +3,7 @@ use Rattle.std.specs.Prelude.{List, ◌++◌, ℕ, codes}
 use Rattle.std.specs.Fmt.{decimal}
 use Rattle.history_text.specs.declared.bad_line.BadLine.{BadLine}
 use Rattle.history_text.specs.declared.line_cause.LineCause.{LineCause}
-use Rattle.history_text.specs.declared.line_cause.LineCause.TheVariants.{TooLong, TooManyLines, NotWords, BadStart, BadEnd, BadKind, WrongCount, NoReturn, BadKeyCode, BadKeyLen, BadValueCode, BadValueLen, BadExpiry, BadMoment, TooManyCalls, TooManyCallers}
+use Rattle.history_text.specs.declared.line_cause.LineCause.TheVariants.{TooLong, TooManyLines, NotWords, BadStart, BadEnd, BadKind, WrongCount, NoReturn, BadKeyCode, BadKeyLen, BadValueCode, BadValueLen, BadExpiry, BadMoment, TooManyCalls, TooManyCallers, BeforeWindow}
 
 -- the message of a cause: what is wrong, and what is wanted
 abbrev pub cause_text : LineCause → List ℕ
@@ -23,6 +23,7 @@ cause_text BadExpiry = codes "the expiry of a put must be a number below 2^63, i
 cause_text BadMoment = codes "the moment of a hit must be a number below 2^63, in decimal without leading zeros: leave it out to mean 0"
 cause_text TooManyCalls = codes "too many calls: a history has at most 268435456"
 cause_text TooManyCallers = codes "too many callers: a history has at most 65536"
+cause_text BeforeWindow = codes "the call started before the window: sort the calls by START, or give a longer window"
 
 -- a bad line in words: its number, and the cause
 abbrev pub bad_line_text : BadLine → List ℕ

@@ -2,7 +2,9 @@ pub mod Coding
 pub mod Causes
 pub mod Spelling
 pub mod Spelled
+pub mod Readings
 pub mod Text
+pub mod Pieces
 pub mod Outcome
 pub mod Reading
 pub mod Writing

@@ -4,7 +4,8 @@ use Rattle.std.specs.Fmt.{decimal}
 use Rattle.std.specs.List.{list_any, position_or_len, range_with_len}
 use Rattle.trace_file.specs.declared.call.Call.{Call}
 use Rattle.trace_file.specs.Calls.{IsCall, value_of}
-use Rattle.history_text.specs.Text.{Text, text_of}
+use Rattle.history_text.specs.Readings.{whole}
+use Rattle.history_text.specs.Text.{Text, read_by, text_of}
 use Rattle.history_text.specs.Writing.{has_text, written}
 
 -- a call of a history, which has a text; a key and a value are bytes
@@ -46,4 +47,4 @@ read_back calls = record {
 
 -- what is written of a history all of whose calls have a text reads back as that history
 abbrev pub HistoriesReadBack : Type 0
-HistoriesReadBack = (calls : List Call) → length calls ≤ 268435456 → All IsTold calls → text_of (written None calls) ≡ Ok (read_back calls)
+HistoriesReadBack = (calls : List Call) → length calls ≤ 268435456 → All IsTold calls → text_of whole (written None calls) ≡ Ok (read_by (read_back calls) 0)

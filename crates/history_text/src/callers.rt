@@ -1,5 +1,5 @@
 // The callers of a text, by their names.
-ghost use Rattle.std.specs.Prelude.{◌≡◌, ◌<◌, ◌≤◌, [], List, ℕ, Some, None, length, slice_get, IfOk, IfErr, OnErr, IfNone, IfSome};
+ghost use Rattle.std.specs.Prelude.{◌≡◌, ◌≢◌, ◌<◌, ◌≤◌, [], List, ℕ, Some, None, length, slice_get, IfOk, IfErr, OnErr, IfNone, IfSome};
 ghost use Rattle.history_text.specs.Names.{names_of};
 ghost use Rattle.history_text.specs.Text.{number_of, noted};
 ghost use Rattle.history_text.specs.Outcome.{IsRefused};
@@ -73,6 +73,7 @@ impl<S: BuildHasher> Callers<S> {
         ensures noted { IfOk result (λ number. self.new ≡ noted self.old name.now) }
         ensures few { IfOk result (λ number. number < 65536) }
         ensures refused { IfErr result (λ fault. IsRefused (number_of self.old name.now) fault) }
+        ensures kept { IfErr result (λ fault. fault ≢ TextFault.OutOfMemory → self.new ≡ self.old) }
     {
         if let Some(known) = self.names.get_index_of(name) {
             return Ok(known as u16);

@@ -1,5 +1,5 @@
 // Laws of the definitions.
-ghost use Rattle.history_text.specs.Laws.{WordsAreApart, WordsReadBack};
+ghost use Rattle.history_text.specs.Laws.{TextsAreSpelled, WordsAreApart, WordsReadBack};
 ghost use Rattle.history_text.specs.ReadingBack.{HistoriesReadBack};
 
 /// A word reads back as the bytes that it was written for, and other bytes have another word.
@@ -12,4 +12,9 @@ pub fn word_laws()
 /// callers are then numbered as they first appear.
 pub fn history_laws()
     ensures back { HistoriesReadBack }
+{}
+
+/// What is read of a text into a history is what its lines spell with no bound on the number of calls.
+pub fn reading_laws()
+    ensures spelled { TextsAreSpelled }
 {}

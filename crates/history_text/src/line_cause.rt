@@ -39,10 +39,27 @@ pub enum LineCause {
     TooManyCalls,
     /// There are more than 65,536 callers.
     TooManyCallers,
+    /// The call started before the window of calls that are judged as they come. Reading a whole text never gives this cause.
+    BeforeWindow,
 }
 
 impl LineCause {
     ghost use Rattle.history_text.specs.Causes.{cause_text};
+    ghost use Rattle.history_text.specs.Readings.{is_of_line};
+
+    /// Whether the cause is one of the line itself: neither of its length nor of a text that is full. Such a line can be passed over.
+    pub(crate) fn is_of_line(self) -> bool
+        ensures { result ≡ is_of_line self }
+    {
+        !matches!(
+            self,
+            LineCause::TooLong
+                | LineCause::TooManyLines
+                | LineCause::TooManyCalls
+                | LineCause::TooManyCallers
+                | LineCause::BeforeWindow
+        )
+    }
 
     /// The message of a line with this cause: what is wrong, and what is wanted.
     pub fn text(self) -> &'static str
@@ -76,6 +93,8 @@ impl LineCause {
                 "the moment of a hit must be a number below 2^63, in decimal without leading zeros: leave it out to mean 0",
             LineCause::TooManyCalls => "too many calls: a history has at most 268435456",
             LineCause::TooManyCallers => "too many callers: a history has at most 65536",
+            LineCause::BeforeWindow =>
+                "the call started before the window: sort the calls by START, or give a longer window",
         }
     }
 }

@@ -1,8 +1,13 @@
+mod TurnLaws
 mod RowLaws
 mod RunLaws
 mod ScopeLaws
+mod TakingLaws
 mod WarmLaws
 mod TraceLines
 mod ShowLaws
 mod FoundLaws
 mod KeyLaws
+mod KeepLaws
+mod StreamLaws
+mod TextLaws

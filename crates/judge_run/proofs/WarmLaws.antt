@@ -38,3 +38,9 @@ module _ (history : List Call) (warm : Warmed) (lines : List ℕ) (is : IsWarmed
       let m = length-map (filter_map (slice_get history) warm.hits.items) warm_put in
       let h = ap length is.calls ∙ length-append history (warm_puts history warm.hits.items) in
       omega (arith, many, l, a, b, m, h)
+
+-- there are as many puts as hits whose values they put
+pub puts_count : (history : List Call) (warm : Warmed) → IsWarmed history warm → length (warm_puts history warm.hits.items) ≡ length warm.hits.items
+puts_count history warm is =
+    length-map (filter_map (slice_get history) warm.hits.items) warm_put
+    ∙ as_many_there history warm.hits.items (λ k d lt. let unput = (is.hits.each k d lt).unput in (unput.call, unput.at))

@@ -6,7 +6,7 @@ use Rattle.certificate_finder.specs.declared.found.Found.TheVariants.{Accepted, 
 use Rattle.certificate_finder.specs.declared.witness.Witness.{Witness}
 use Rattle.figures.specs.Figures.{Row, number, row, word}
 use Rattle.judge_run.specs.declared.extent.Extent.{Extent}
-use Rattle.judge_run.specs.Extents.{extent_rows, recorded_of}
+use Rattle.judge_run.specs.Extents.{extent_rows, own_of, recorded_of}
 use Rattle.judge_run.specs.Kinds.{kind_rows}
 use Rattle.judge_run.specs.Listing.{key_count}
 use Rattle.judge_run.specs.ReasonRows.{reason_rows}
@@ -42,4 +42,4 @@ outcome_rows calls lines recorded (Undecided hits) faults = undecided_rows (leng
 abbrev pub found_rows : List Call → List ℕ → Extent → Found → List Witness → List Row
 found_rows calls lines extent found faults =
     calls_row (recorded_of extent (length calls))
-    ∷ (kind_rows extent calls ++ (extent_rows extent ++ outcome_rows calls lines (recorded_of extent (length calls)) found faults))
+    ∷ (kind_rows extent calls ++ (extent_rows extent ++ outcome_rows calls lines (own_of extent (length calls)) found faults))

@@ -6,6 +6,7 @@ pub mod TraceTold
 pub mod Showing
 pub mod Inputs
 pub mod Scopes
+pub mod Streams
 pub mod Extents
 pub mod FromStart
 pub mod Kinds

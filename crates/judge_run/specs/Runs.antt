@@ -1,6 +1,6 @@
 -- What `judge`, `check` and `show` wrote if the program ended with a status.
-use Rattle.std.specs.Prelude.{◌≡◌, ◌≢◌, ◌⊎◌, ℕ, Bool, List, Option, Some, None, Ok}
-use Rattle.std.specs.Io.KnownBytes.{Keeps}
+use Rattle.std.specs.Prelude.{◌≡◌, ◌≢◌, ◌⊎◌, ℕ, Bool, true, false, not, ◌&&◌, ◌==◌, nat_lt, if◌then◌else◌, fold, length, codes, List, [], ◌∷◌, ◌++◌, Option, Some, None, Ok}
+use Rattle.std.specs.Io.KnownBytes.{Appends, Keeps}
 use Rattle.figures.specs.declared.form.Form.{Form}
 use Rattle.history_text.specs.declared.line_cause.LineCause.{LineCause}
 use Rattle.history_text.specs.declared.text_fault.TextFault.{TextFault}
@@ -12,6 +12,7 @@ use Rattle.judge_run.specs.declared.outcome.Outcome.{Outcome}
 use Rattle.judge_run.specs.declared.scope.Scope.{Scope}
 use Rattle.judge_run.specs.declared.shown.Shown.{Shown}
 use Rattle.judge_run.specs.Ends.{end_at_least, end_of_outcome, end_of_shown, status_of}
+use Rattle.judge_run.specs.Inputs.{IsStandardInput}
 use Rattle.judge_run.specs.Showing.{HasShown}
 use Rattle.judge_run.specs.TextTold.{ToldText}
 use Rattle.judge_run.specs.TraceTold.{ToldTrace}
@@ -33,6 +34,56 @@ pub record JudgedWith (form : Form) (scope : Scope) (detail : Detail) (least : �
 
 abbrev pub IsJudgeRun : Form → Scope → Detail → ℕ → Option (List ℕ) → Option (List ℕ) → ℕ → Type 0
 IsJudgeRun form scope detail least old new status = status ≢ 3 → JudgedWith form scope detail least old new status
+
+-- the name of a file and a colon, on a line of their own, were written if that is wanted
+abbrev pub IsHeaded : Bool → List ℕ → Option (List ℕ) → Option (List ℕ) → Type 0
+IsHeaded true file old new = Appends old new (file ++ codes ":\n")
+IsHeaded false file old new = new ≡ old
+
+-- the report on the text in a file was written, after the name of the file if that is wanted. If the file is the standard input, the text is what was left of it; otherwise nothing of it was read
+pub record JudgedFile (form : Form) (scope : Scope) (detail : Detail) (least : ℕ) (headed : Bool) (file : List ℕ) (input left old new : Option (List ℕ)) (status : ℕ) : Type 0 where
+  pub begun : Option (List ℕ)
+  pub head : status ≢ 3 → IsHeaded headed file old begun
+  pub judged : IsJudgeRun form scope detail least begun new status
+  pub standard_input : IsStandardInput file → IsJudgeRunOn form scope input detail least begun new status
+  pub unread : ¬ IsStandardInput file → left ≡ input
+
+-- the same of file after file, with the status of each
+abbrev pub AreJudged : Form → Scope → Detail → ℕ → Bool → List (List ℕ) → List ℕ → Option (List ℕ) → Option (List ℕ) → Option (List ℕ) → Option (List ℕ) → Type 0
+AreJudged form scope detail least headed [] [] input left old new = (left ≡ input) × (new ≡ old)
+AreJudged form scope detail least headed (file ∷ files) (status ∷ statuses) input left old new =
+    (between : Option (List ℕ)) × (so_far : Option (List ℕ)) × JudgedFile form scope detail least headed file input between old so_far status × AreJudged form scope detail least headed files statuses between left so_far new
+AreJudged form scope detail least headed [] (status ∷ statuses) input left old new = ⊥
+AreJudged form scope detail least headed (file ∷ files) [] input left old new = ⊥
+
+-- how much a status has to be noticed: 3 before 2, 1, 4 and 0
+abbrev pub weight_of : ℕ → ℕ
+weight_of status = if status == 0 then 0 else (if status == 4 then 1 else (if status == 1 then 2 else (if status == 2 then 3 else 4)))
+
+-- that of two statuses which has to be noticed more
+abbrev pub worse_of : ℕ → ℕ → ℕ
+worse_of one other = if nat_lt (weight_of one) (weight_of other) then other else one
+
+-- that of several
+abbrev pub worst_of : List ℕ → ℕ
+worst_of [] = 0
+worst_of (status ∷ statuses) = fold worse_of status statuses
+
+-- the texts in these files were judged in turn, and the status is that which has to be noticed most
+pub record JudgedInTurn (form : Form) (scope : Scope) (detail : Detail) (least : ℕ) (headed : Bool) (files : List (List ℕ)) (input left old new : Option (List ℕ)) (status : ℕ) : Type 0 where
+  pub statuses : List ℕ
+  pub are : AreJudged form scope detail least headed files statuses input left old new
+  pub status_is : status ≡ worst_of statuses
+
+-- the same with some standard input
+pub record JudgedFiles (form : Form) (scope : Scope) (detail : Detail) (least : ℕ) (headed : Bool) (files : List (List ℕ)) (old new : Option (List ℕ)) (status : ℕ) : Type 0 where
+  pub input : Option (List ℕ)
+  pub left : Option (List ℕ)
+  pub is : JudgedInTurn form scope detail least headed files input left old new status
+
+-- several files are judged, and told as lines
+abbrev pub is_headed : Bool → List (List ℕ) → Bool
+is_headed json others = not json && nat_lt 0 (length others)
 
 -- the report on a trace of these bytes, of which those are left, was written, and the status is that of its outcome
 pub record CheckedOn (form : Form) (known left : Option (List ℕ)) (explain : Bool) (old new : Option (List ℕ)) (status : ℕ) : Type 0 where

@@ -3,7 +3,7 @@ use Rattle.std.specs.Prelude.{◌≡◌, ℕ, Bool, true, false, List, ◌++◌,
 use Rattle.certificate_finder.specs.declared.warmed.Warmed.{Warmed}
 use Rattle.certificate_finder.specs.Warming.{IsWarmed}
 use Rattle.clock_skew.specs.Widening.{widened}
-use Rattle.history_text.specs.Text.{Text, text_by, text_of}
+use Rattle.history_text.specs.Text.{Text, read_by, text_by, text_of}
 use Rattle.judge_run.specs.declared.extent.Extent.{Extent}
 use Rattle.judge_run.specs.declared.scope.Scope.{Scope}
 use Rattle.judge_run.specs.Telling.{lines_at}
@@ -26,8 +26,16 @@ abbrev pub IsWarmedIf : Bool → Text → Text → Option ℕ → Type 0
 IsWarmedIf true text judged added = IsWarmedText text judged added
 IsWarmedIf false text judged added = (judged ≡ text) × (added ≡ None)
 
--- the bytes, if they are known, spell a text that is judged so in a scope
+-- a number is told exactly if that is asked for
+abbrev pub IsCounted : Bool → ℕ → Option ℕ → Type 0
+IsCounted true count told = told ≡ Some count
+IsCounted false count told = told ≡ None
+
+-- the bytes, if they are known, spell a text that is judged so in a scope. No call of it was forgotten
 pub record IsJudged (scope : Scope) (known : Option (List ℕ)) (judged : Text) (extent : Extent) : Type 0 where
   pub spelled : Text
-  pub read : IfSome known (λ bytes. text_of bytes ≡ Ok spelled)
+  pub passed : ℕ
+  pub read : IfSome known (λ bytes. text_of scope.reading bytes ≡ Ok (read_by spelled passed))
+  pub skipped : IsCounted scope.reading.skip_bad passed extent.skipped
   pub warmed : IsWarmedIf scope.warm (text_scoped scope spelled) judged extent.from_start
+  pub held : extent.forgotten ≡ None

@@ -1,5 +1,5 @@
 -- The report on a history that was written as text.
-use Rattle.std.specs.Prelude.{◌≡◌, ℕ, List, [], ◌∷◌, ◌++◌, length, codes, Option, IfSome, Err}
+use Rattle.std.specs.Prelude.{◌≡◌, ℕ, Bool, true, false, List, [], ◌∷◌, ◌++◌, length, codes, Option}
 use Rattle.std.specs.Fmt.{decimal}
 use Rattle.std.specs.Io.KnownBytes.{Appends, Keeps}
 use Rattle.certificate_checker.specs.Acceptance.{IsAccepted}
@@ -14,15 +14,16 @@ use Rattle.history_picture.specs.Names.{names_of}
 use Rattle.history_picture.specs.Reasons.{reason_of}
 use Rattle.history_text.specs.declared.bad_line.BadLine as bad_lines
 use Rattle.history_text.specs.Causes.{bad_line_text, cause_text}
-use Rattle.history_text.specs.Text.{Text, text_by, text_of}
+use Rattle.history_text.specs.declared.read_text_fault.ReadTextFault.TheVariants.{Bad}
+use Rattle.history_text.specs.Text.{Text, text_by}
 use Rattle.judge_run.specs.CallObjects.{with_calls}
 use Rattle.judge_run.specs.FaultsTold.{listed, more_text}
-use Rattle.judge_run.specs.Extents.{extent_rows, extent_text, recorded_of}
+use Rattle.judge_run.specs.Extents.{extent_rows, extent_text, own_of, recorded_of}
 use Rattle.judge_run.specs.FoundRows.{calls_row, found_rows, undecided_rows, verdict_row}
 use Rattle.judge_run.specs.FromStart.{start_lines}
 use Rattle.judge_run.specs.Kinds.{kind_rows}
 use Rattle.judge_run.specs.Listing.{AreListed, key_count}
-use Rattle.judge_run.specs.Scopes.{IsJudged}
+use Rattle.judge_run.specs.Streams.{IsFaultBy, IsJudgedBy}
 use Rattle.judge_run.specs.VerdictText.{verdict_text}
 use Rattle.trace_file.specs.declared.call.Call.{Call}
 use Rattle.trace_file.specs.Sending.{Begun}
@@ -97,10 +98,10 @@ pub record RejectedTold (form : Form) (text : Text) (extent : Extent) (detail : 
   pub witness : Witness
   pub is : IsWitness text.calls witness
   pub reason_is : rejection.reason ≡ reason_of witness
-  pub from_start : rejection.from_start.items ≡ start_lines text.lines (recorded_of extent (length text.calls)) witness
+  pub from_start : rejection.from_start.items ≡ start_lines text.lines (own_of extent (length text.calls)) witness
   pub faults : List Witness
   pub are_all : AreListed text.calls faults
-  pub behind : IsBehind form detail.explain (more_text (length faults) (key_count text.calls faults)) rejection (listed form detail.all text.calls text.lines (recorded_of extent (length text.calls)) faults (with_calls form text.calls text.lines (recorded_of extent (length text.calls)) witness (rejected_begun form text extent witness faults))) told
+  pub behind : IsBehind form detail.explain (more_text (length faults) (key_count text.calls faults)) rejection (listed form detail.all text.calls text.lines (own_of extent (length text.calls)) faults (with_calls form text.calls text.lines (own_of extent (length text.calls)) witness (rejected_begun form text extent witness faults))) told
 
 -- for some hits it was not decided what they read, and their number is reported
 pub record UndecidedTold (form : Form) (text : Text) (extent : Extent) (count : ℕ) (told : List ℕ) : Type 0 where
@@ -117,16 +118,31 @@ IsHistoryTold form text extent detail (Undecided hits) told = UndecidedTold form
 IsHistoryTold form text extent detail (BadLine bad) told = ⊥
 IsHistoryTold form text extent detail (BadTrace fault) told = ⊥
 
+-- whether a history was accepted, and whether that was decided
+abbrev pub told_accepted : Outcome → Bool
+told_accepted (Accepted acceptance) = true
+told_accepted (Rejected rejection) = false
+told_accepted (Undecided hits) = false
+told_accepted (BadLine bad) = false
+told_accepted (BadTrace fault) = false
+
+abbrev pub told_decided : Outcome → Bool
+told_decided (Accepted acceptance) = true
+told_decided (Rejected rejection) = true
+told_decided (Undecided hits) = false
+told_decided (BadLine bad) = false
+told_decided (BadTrace fault) = false
+
 -- the bytes, if they are known, spell a history with this report, as it is judged in this scope
 pub record SpelledTold (form : Form) (scope : Scope) (known : Option (List ℕ)) (detail : Detail) (outcome : Outcome) (told : List ℕ) : Type 0 where
   pub text : Text
   pub extent : Extent
-  pub judged : IsJudged scope known text extent
+  pub judged : IsJudgedBy scope.window scope known (told_accepted outcome) (told_decided outcome) text extent
   pub is : IsHistoryTold form text extent detail outcome told
 
--- the bytes, if they are known, have this first bad line, which is reported
-pub record BadTold (form : Form) (known : Option (List ℕ)) (bad : bad_lines.BadLine) (told : List ℕ) : Type 0 where
-  pub read : IfSome known (λ bytes. text_of bytes ≡ Err bad)
+-- the bytes, if they are known, have this first bad line as they are read in this scope, which is reported
+pub record BadTold (form : Form) (scope : Scope) (known : Option (List ℕ)) (bad : bad_lines.BadLine) (told : List ℕ) : Type 0 where
+  pub read : IsFaultBy scope.window scope known (Bad bad)
   pub told_is : told ≡ bad_answer form bad
 
 -- the report on the bytes of a text, by the outcome of judging them
@@ -134,7 +150,7 @@ abbrev pub IsTextTold : Form → Scope → Option (List ℕ) → Detail → Outc
 IsTextTold form scope known detail (Accepted acceptance) told = SpelledTold form scope known detail (Accepted acceptance) told
 IsTextTold form scope known detail (Rejected rejection) told = SpelledTold form scope known detail (Rejected rejection) told
 IsTextTold form scope known detail (Undecided hits) told = SpelledTold form scope known detail (Undecided hits) told
-IsTextTold form scope known detail (BadLine bad) told = BadTold form known bad told
+IsTextTold form scope known detail (BadLine bad) told = BadTold form scope known bad told
 IsTextTold form scope known detail (BadTrace fault) told = ⊥
 
 -- the report on a text was written, and nothing else

@@ -1,9 +1,10 @@
 // Judging the history that a text spells.
-ghost use Rattle.std.specs.Prelude.{◌≡◌, ◌≢◌, IfOk, IfErr, IfSome, OnOk, length};
+ghost use Rattle.std.specs.Prelude.{◌≡◌, ◌≢◌, None, IfOk, IfErr, IfSome, OnOk, length};
 ghost use Rattle.std.specs.Io.KnownBytes.{IsAtEnd};
 ghost use Rattle.history_text.specs.Outcome.{IsFaultOf, Left};
 ghost use Rattle.history_text.specs.Text.{text_by};
-ghost use Rattle.judge_run.specs.Scopes.{IsJudged};
+ghost use Rattle.judge_run.specs.Scopes.{IsCounted, IsJudged};
+ghost use Rattle.judge_run.specs.Streams.{IsEndedBy, IsFaultBy, IsJudgedBy, IsLeftBy, was_accepted, was_decided};
 ghost use Rattle.certificate_finder.specs.Finding.{IfRejected, IsFound};
 ghost use Rattle.judge_run.specs.Listing.{IsListed};
 
@@ -12,13 +13,17 @@ use crate::judged_text::JudgedText;
 use crate::listing::faults_of;
 use crate::scope::Scope;
 use crate::scoping::scoped;
+use crate::streaming::judge_stream;
 use crate::warmed_text::WarmedText;
 use crate::warming::warmed_if;
 use certificate_finder::find_with_hasher;
-use history_text::{ReadTextFault, read_text};
+use history_text::{ReadText, ReadTextFault, read_text};
 use std::alloc::Global;
 use std::hash::BuildHasher;
 use std::io::Read;
+
+/// The fewest calls of a piece, if a text is read as a stream.
+const LEAST_PIECE: usize = 65_536;
 
 /// Reads the history that a text spells, and looks for a certificate with which it is accepted as it is judged in this scope. If it
 /// is rejected, all its faults are listed.
@@ -26,6 +31,41 @@ use std::io::Read;
 /// A bad line, a failed read and refused memory are faults: see `read_text`. The tables of callers, keys and values hash by
 /// `hash_builder`: whoever wrote the text should not know its seed.
 pub fn judge_text<S: BuildHasher + Copy + Drop, R: Read>(
+    alloc: Global,
+    hash_builder: S,
+    scope: Scope,
+    reader: &mut R,
+) -> Result<JudgedText<S>, ReadTextFault>
+    ensures text { IfOk result (λ judged. IsJudgedBy scope.window scope (R.remaining reader.old)
+        (was_accepted judged.found) (was_decided judged.found)
+        (text_by judged.text.history judged.text.lines.items judged.text.callers) judged.extent) }
+    ensures found { IfOk result (λ judged. IsFound judged.text.history judged.found) }
+    ensures faults { IfOk result (λ judged. IfRejected judged.found
+        (λ _. IsListed judged.text.history judged.faults)) }
+    ensures as_many { IfOk result (λ judged.
+        length judged.text.lines.items ≡ length judged.text.history) }
+    ensures end { IfOk result (λ judged. IsEndedBy scope.window (was_accepted judged.found)
+        (R.remaining reader.new)) }
+    ensures fault { IfErr result (IsFaultBy scope.window scope (R.remaining reader.old)) }
+    ensures left { IfErr result (IsLeftBy scope.window scope
+        (R.remaining reader.old) (R.remaining reader.new)) }
+{
+    match scope.window {
+        None => match judge_whole(alloc, hash_builder, scope, reader) {
+            Ok(judged) => Ok(judged),
+            Err(fault) => Err(fault),
+        },
+        Some(window) => {
+            match judge_stream(alloc, hash_builder, scope, window, LEAST_PIECE, reader) {
+                Ok(judged) => Ok(judged),
+                Err(fault) => Err(fault),
+            }
+        }
+    }
+}
+
+/// The same of a text that is read whole.
+fn judge_whole<S: BuildHasher + Copy + Drop, R: Read>(
     alloc: Global,
     hash_builder: S,
     scope: Scope,
@@ -40,14 +80,15 @@ pub fn judge_text<S: BuildHasher + Copy + Drop, R: Read>(
         length judged.text.lines.items ≡ length judged.text.history) }
     ensures end { OnOk result (IsAtEnd (R.remaining reader.new)) }
     ensures fault { IfErr result (λ fault. IfSome (R.remaining reader.old) (λ bytes.
-        IsFaultOf bytes fault)) }
+        IsFaultOf scope.reading bytes fault)) }
     ensures left { IfErr result (λ fault. fault ≢ ReadTextFault.OutOfMemory
-        → Left (R.remaining reader.old) (R.remaining reader.new) fault) }
+        → Left scope.reading (R.remaining reader.old) (R.remaining reader.new) fault) }
 {
-    let text = match read_text(alloc, hash_builder, reader) {
-        Ok(text) => text,
+    let read = match read_text(alloc, hash_builder, scope.reading, reader) {
+        Ok(read) => read,
         Err(fault) => return Err(fault),
     };
+    let ReadText { text, skipped } = read;
     let Ok(text) = scoped(alloc, text, scope) else {
         return Err(ReadTextFault::OutOfMemory);
     };
@@ -63,8 +104,19 @@ pub fn judge_text<S: BuildHasher + Copy + Drop, R: Read>(
     };
     Ok(JudgedText {
         text,
-        extent: Extent { from_start },
+        extent: Extent {
+            from_start,
+            skipped: counted(scope.reading.skip_bad, skipped),
+            forgotten: None,
+        },
         found,
         faults,
     })
+}
+
+/// A number, if it is asked for.
+pub(crate) fn counted(asked: bool, count: u64) -> Option<u64>
+    ensures { IsCounted asked count result }
+{
+    if asked { Some(count) } else { None }
 }

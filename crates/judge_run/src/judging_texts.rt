@@ -1,17 +1,18 @@
 // Judging the history of a text, and telling its verdict.
-ghost use Rattle.std.specs.Prelude.{◌≡◌, ◌≢◌, IfOk, IfErr, string_bytes};
+ghost use Rattle.std.specs.Prelude.{◌≡◌, ◌≢◌, true, false, IfOk, IfErr, string_bytes};
 ghost use Rattle.certificate_finder.specs.Finding.{IfRejected, IsFound};
 ghost use Rattle.certificate_finder.specs.Witnesses.{IsWitness};
 ghost use Rattle.history_text.specs.Text.{text_by};
 ghost use Rattle.judge_run.specs.Listing.{IsListed};
-ghost use Rattle.judge_run.specs.TextTold.{IsHistoryTold, IsTextTold, IsTextUntold, ToldText, acceptance_of, bad_answer, rejected_begun};
+ghost use Rattle.judge_run.specs.Streams.{was_accepted, was_decided};
+ghost use Rattle.judge_run.specs.TextTold.{IsHistoryTold, IsTextTold, IsTextUntold, ToldText, acceptance_of, bad_answer, rejected_begun, told_accepted, told_decided};
 
 use crate::acceptance::Acceptance;
 use crate::answers::ended;
 use crate::call_objects::with_calls;
 use crate::detail::Detail;
 use crate::extent::Extent;
-use crate::extents::recorded_of;
+use crate::extents::{own_of, recorded_of};
 use crate::fault_list::FaultList;
 use crate::fault_telling::{listed, more_text};
 use crate::from_start::start_lines;
@@ -97,9 +98,11 @@ fn told_judged<S: BuildHasher + Drop>(
 ) -> Result<JudgeReport, AllocError>
     requires found { IsFound judged.text.history judged.found }
     requires faults { IfRejected judged.found (λ _. IsListed judged.text.history judged.faults) }
-    ensures { IfOk result (λ told. IsHistoryTold form
+    ensures told { IfOk result (λ told. IsHistoryTold form
         (text_by judged.text.history judged.text.lines.items judged.text.callers)
         judged.extent detail told.outcome (string_bytes told.text)) }
+    ensures accepted { IfOk result (λ told. told_accepted told.outcome ≡ was_accepted judged.found) }
+    ensures decided { IfOk result (λ told. told_decided told.outcome ≡ was_decided judged.found) }
 {
     let text = found_begun(alloc, form, &judged)?;
     let JudgedText {
@@ -156,11 +159,13 @@ fn told_rejected<S: BuildHasher + Drop>(
     requires begun { string_bytes begun
         ≡ rejected_begun form (text_by text.history text.lines.items text.callers) extent.now witness
         list.now.faults.items }
-    ensures { IfOk result (λ told. IsHistoryTold form
+    ensures told { IfOk result (λ told. IsHistoryTold form
         (text_by text.history text.lines.items text.callers)
         extent.now detail told.outcome (string_bytes told.text)) }
+    ensures accepted { IfOk result (λ told. told_accepted told.outcome ≡ false) }
+    ensures decided { IfOk result (λ told. told_decided told.outcome ≡ true) }
 {
-    let recorded = recorded_of(extent, text.history.len());
+    let recorded = own_of(extent, text.history.len());
     let begun = with_calls(
         alloc,
         form,

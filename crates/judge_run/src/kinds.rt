@@ -2,10 +2,11 @@
 ghost use Rattle.std.specs.Prelude.{◌≡◌, OnOk, string_bytes};
 ghost use Rattle.trace_file.specs.Lent.{call_shown};
 ghost use Rattle.figures.specs.Figures.{with_rows};
-ghost use Rattle.judge_run.specs.Kinds.{calls_of, is_of, kind_rows};
+ghost use Rattle.judge_run.specs.Kinds.{calls_of, gone_of, is_of, kind_rows, told_of};
 
 use crate::extent::Extent;
-use crate::extents::recorded_of;
+use crate::extents::{added_before, own_of, with_forgotten};
+use crate::forgotten::Forgotten;
 use figures::{Figure, Form};
 use std::alloc::{AllocError, Global};
 use trace_file::{ActRef, CallRef, History};
@@ -32,7 +33,7 @@ fn is_of(kind: CountedKind, call: &CallRef<'_>) -> bool
 }
 
 /// How many calls of a kind a history has.
-fn calls_of(history: &History, kind: CountedKind) -> usize
+pub(crate) fn calls_of(history: &History, kind: CountedKind) -> usize
     ensures { result ≡ calls_of kind history.now }
 {
     let mut calls = 0;
@@ -44,7 +45,29 @@ fn calls_of(history: &History, kind: CountedKind) -> usize
     calls
 }
 
-/// Tells how many calls of each kind of a history were recorded.
+/// How many calls of a kind were judged and forgotten.
+fn gone_of(kind: CountedKind, forgotten: Option<Forgotten>) -> usize
+    ensures { result ≡ gone_of kind forgotten }
+{
+    let Some(gone) = forgotten else {
+        return 0;
+    };
+    match kind {
+        CountedKind::Put => gone.puts as usize,
+        CountedKind::Removal => gone.removals as usize,
+        CountedKind::Hit => gone.hits as usize,
+        CountedKind::Miss => gone.misses as usize,
+    }
+}
+
+/// So many calls of a kind, and those that were forgotten.
+fn told_of(kind: CountedKind, extent: &Extent, own: usize) -> usize
+    ensures { result ≡ told_of kind extent.now own }
+{
+    with_forgotten(own, gone_of(kind, extent.forgotten))
+}
+
+/// Tells how many calls of each kind were judged of a text that has this history.
 pub(crate) fn tell_kinds(
     alloc: Global,
     form: Form,
@@ -55,10 +78,15 @@ pub(crate) fn tell_kinds(
     ensures { OnOk result (string_bytes text.new
         ≡ with_rows form (string_bytes text.old) (kind_rows extent.now history.now)) }
 {
-    let puts = recorded_of(extent, calls_of(history, CountedKind::Put));
+    let own = own_of(extent, calls_of(history, CountedKind::Put));
+    let puts = told_of(CountedKind::Put, extent, own)
+        .saturating_sub(added_before(extent.forgotten));
     let removals = calls_of(history, CountedKind::Removal);
+    let removals = told_of(CountedKind::Removal, extent, removals);
     let hits = calls_of(history, CountedKind::Hit);
+    let hits = told_of(CountedKind::Hit, extent, hits);
     let misses = calls_of(history, CountedKind::Miss);
+    let misses = told_of(CountedKind::Miss, extent, misses);
     form.tell(alloc, text, "puts", Figure::Count(puts as u64))?;
     form.tell(alloc, text, "removals", Figure::Count(removals as u64))?;
     form.tell(alloc, text, "hits", Figure::Count(hits as u64))?;

@@ -8,6 +8,9 @@ use trace_file::FileName;
 pub struct JudgeRequest {
     /// The file of the text; `-` is the standard input.
     pub file: FileName,
+    /// Further files, each of which is judged by itself after that one. A trace, a picture or a JUnit file would then be written for
+    /// each, so that only the last would stay.
+    pub others: Vec<FileName>,
     /// What is reported of a rejected history beside its verdict.
     pub detail: Detail,
     /// Whether the answer is a JSON object and not lines.

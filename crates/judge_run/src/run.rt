@@ -1,9 +1,9 @@
 // What `judge`, `check` and `show` do with files.
-ghost use Rattle.std.specs.Prelude.{◌≡◌, ◌≢◌, IfErr, IfOk, option_map, string_bytes};
+ghost use Rattle.std.specs.Prelude.{◌≡◌, ◌≢◌, ◌∷◌, true, IfErr, IfOk, OnOk, option_map, string_bytes};
 ghost use Rattle.figures.specs.Figures.{form_of};
 ghost use Rattle.history_text.specs.Writing.{named};
 ghost use Rattle.judge_run.specs.Inputs.{IsStandardInput};
-ghost use Rattle.judge_run.specs.Runs.{IsAskedFor, IsCheckRun, IsCheckRunOn, IsJudgeRun, IsJudgeRunOn, IsNotAskedFor, IsShowRun, IsShowRunOn, ShownAs};
+ghost use Rattle.judge_run.specs.Runs.{IsAskedFor, IsCheckRun, IsCheckRunOn, IsHeaded, IsJudgeRun, IsJudgeRunOn, IsNotAskedFor, IsShowRun, IsShowRunOn, JudgedFile, JudgedFiles, JudgedInTurn, ShownAs, is_headed, weight_of, worse_of};
 ghost use Rattle.judge_run.specs.Ends.{IsEnded, end_of_shown, status_of};
 
 use crate::checking::answer_check;
@@ -27,11 +27,12 @@ use std::fs;
 use std::io::{BufWriter, Read, Write};
 use std::random::RandomSource;
 use std::rt::Files;
-use trace_file::FileName;
+use trace_file::{FileName, Unwritten, write_whole};
 
-/// Judges the history of a text in a file or of standard input, and answers the status that the program ends with. The
-/// tables have a seed of their own. The verdict is written to `out`, followed by all faults and the reason, if
-/// that is wanted. Then an accepted history is written to the file of its trace, the picture of a rejected one to its file, and what came of
+/// Judges the histories of the texts in files or of standard input, one after the other, and answers the status that the program ends
+/// with: of several the one that has to be noticed most. The
+/// tables have a seed of their own. Each verdict is written to `out`, followed by all faults and the reason, if
+/// that is wanted. Before it stands the name of its file, if there are several and the verdicts are lines. Then an accepted history is written to the file of its trace, the picture of a rejected one to its file, and what came of
 /// judging to its JUnit file, if they are wanted. What failed, and what to do about it, is written to `err`.
 pub fn run_judge<R: AllocGlobal + Files + Input + RandomSource, O: Write, E: Write>(
     rt: &R,
@@ -39,8 +40,10 @@ pub fn run_judge<R: AllocGlobal + Files + Input + RandomSource, O: Write, E: Wri
     out: &mut O,
     err: &mut E,
 ) -> u8
-    ensures { IsJudgeRun (form_of request.now.json) request.now.scope request.now.detail
-        request.now.at_least (O.contents out.old) (O.contents out.new) result }
+    ensures { JudgedFiles (form_of request.now.json) request.now.scope request.now.detail
+        request.now.at_least (is_headed request.now.json request.now.others.items)
+        (request.now.file ∷ request.now.others.items)
+        (O.contents out.old) (O.contents out.new) result }
 {
     judge_with(rt, &mut rt.reader(), request, out, err)
 }
@@ -53,23 +56,109 @@ pub fn judge_with<R: AllocGlobal + Files + RandomSource, I: Read, O: Write, E: W
     out: &mut O,
     err: &mut E,
 ) -> u8
+    ensures { JudgedInTurn (form_of request.now.json) request.now.scope request.now.detail
+        request.now.at_least (is_headed request.now.json request.now.others.items)
+        (request.now.file ∷ request.now.others.items)
+        (I.remaining stdin.old) (I.remaining stdin.new)
+        (O.contents out.old) (O.contents out.new) result }
+{
+    let headed = !request.json && request.others.len() > 0;
+    let mut worst = judge_file(rt, stdin, request, &request.file, headed, out, err);
+    for file in &request.others {
+        let status = judge_file(rt, stdin, request, file, headed, out, err);
+        worst = worse_of(worst, status);
+    }
+    worst
+}
+
+/// That of two statuses which has to be noticed more.
+fn worse_of(one: u8, other: u8) -> u8
+    ensures { result ≡ worse_of one other }
+{
+    if weight_of(one) < weight_of(other) {
+        other
+    } else {
+        one
+    }
+}
+
+/// How much a status has to be noticed: a fault before a bad input, a rejection, hits that are undecided, and success.
+fn weight_of(status: u8) -> u8
+    ensures { result ≡ weight_of status }
+{
+    match status {
+        0 => 0,
+        4 => 1,
+        1 => 2,
+        2 => 3,
+        _ => 4,
+    }
+}
+
+/// Judges the history of the text in one file, after the file's name if that is wanted, and answers the status that the program
+/// would end with.
+fn judge_file<R: AllocGlobal + Files + RandomSource, I: Read, O: Write, E: Write>(
+    rt: &R,
+    stdin: &mut I,
+    request: &JudgeRequest,
+    file: &FileName,
+    headed: bool,
+    out: &mut O,
+    err: &mut E,
+) -> u8
+    ensures { JudgedFile (form_of request.now.json) request.now.scope request.now.detail
+        request.now.at_least headed file.now (I.remaining stdin.old) (I.remaining stdin.new)
+        (O.contents out.old) (O.contents out.new) result }
+{
+    if !headed {
+        return judge_at(rt, stdin, request, file, out, err);
+    }
+    match write_heading(rt.alloc(), file, out) {
+        Ok(()) => judge_at(rt, stdin, request, file, out, err),
+        Err(fault) => untold(err, input_name(file), fault).status(),
+    }
+}
+
+/// Writes the name of a file and a colon, on a line of their own.
+fn write_heading<O: Write>(alloc: Global, file: &FileName, out: &mut O) -> Result<(), TellFault>
+    ensures { OnOk result (IsHeaded true file.now (O.contents out.old) (O.contents out.new)) }
+{
+    let name = file.as_str();
+    let Ok(line) = format!(in alloc; "{name}:\n") else {
+        return Err(TellFault::OutOfMemory);
+    };
+    match write_whole(out, line.as_bytes()) {
+        Ok(()) => Ok(()),
+        Err(Unwritten) => Err(TellFault::WriteFault),
+    }
+}
+
+/// The same without the name.
+fn judge_at<R: AllocGlobal + Files + RandomSource, I: Read, O: Write, E: Write>(
+    rt: &R,
+    stdin: &mut I,
+    request: &JudgeRequest,
+    file: &FileName,
+    out: &mut O,
+    err: &mut E,
+) -> u8
     ensures judged { IsJudgeRun (form_of request.now.json) request.now.scope request.now.detail
         request.now.at_least (O.contents out.old) (O.contents out.new) result }
-    ensures standard_input { IsStandardInput request.now.file → IsJudgeRunOn
+    ensures standard_input { IsStandardInput file.now → IsJudgeRunOn
         (form_of request.now.json) request.now.scope (I.remaining stdin.old) request.now.detail
         request.now.at_least (O.contents out.old) (O.contents out.new) result }
-    ensures unread { ¬ IsStandardInput request.now.file → stdin.new ≡ stdin.old }
+    ensures unread { ¬ IsStandardInput file.now → stdin.new ≡ stdin.old }
 {
     let seed = match RandomSeed::draw(rt) {
         Ok(seed) => seed,
         Err(error) => return without_random(err, &error).status(),
     };
-    if is_standard_input(&request.file) {
-        return judge_from(rt, seed, request, stdin, out, err);
+    if is_standard_input(file) {
+        return judge_from(rt, seed, request, file, stdin, out, err);
     }
-    match fs::open(rt, request.file.as_str()) {
-        Ok(mut reader) => judge_from(rt, seed, request, &mut reader, out, err),
-        Err(error) => unopened(err, &request.file, &error).status(),
+    match fs::open(rt, file.as_str()) {
+        Ok(mut reader) => judge_from(rt, seed, request, file, &mut reader, out, err),
+        Err(error) => unopened(err, file, &error).status(),
     }
 }
 
@@ -78,6 +167,7 @@ fn judge_from<R: AllocGlobal + Files, I: Read, O: Write, E: Write>(
     rt: &R,
     seed: RandomSeed,
     request: &JudgeRequest,
+    file: &FileName,
     reader: &mut I,
     out: &mut O,
     err: &mut E,
@@ -101,7 +191,7 @@ fn judge_from<R: AllocGlobal + Files, I: Read, O: Write, E: Write>(
         junit: request.junit.as_ref(),
     };
     let least = request.at_least as usize;
-    let end = settled(rt, &request.file, answer, &files, least, err);
+    let end = settled(rt, file, answer, &files, least, err);
     end.status()
 }
 

@@ -3,7 +3,7 @@ ghost use Rattle.std.specs.Prelude.{◌≡◌, IfOk, length, string_bytes};
 ghost use Rattle.judge_run.specs.VerdictText.{verdict_text};
 
 use crate::extent::Extent;
-use crate::extents::recorded_of;
+use crate::extents::{own_of, recorded_of};
 use crate::from_start::{start_lines, start_text};
 use crate::judged_text::JudgedText;
 use crate::reason_text::reason_text;
@@ -25,7 +25,7 @@ fn rejected_text(
         ≡ verdict_text history.now lines.now extent.now (Found.Rejected witness.now)) }
 {
     let reason = reason_text(alloc, history, lines, witness)?;
-    let start = start_lines(alloc, lines, recorded_of(extent, history.len()), witness)?;
+    let start = start_lines(alloc, lines, own_of(extent, history.len()), witness)?;
     let start = start_text(alloc, &start)?;
     format!(in alloc; "rejected {reason}{start}\n")
 }

@@ -2,12 +2,12 @@
 ghost use Rattle.std.specs.Prelude.{◌≡◌, OnOk, length, string_bytes};
 ghost use Rattle.certificate_finder.specs.Finding.{IfRejected};
 ghost use Rattle.figures.specs.Figures.{with_rows};
-ghost use Rattle.judge_run.specs.Extents.{recorded_of};
+ghost use Rattle.judge_run.specs.Extents.{own_of, recorded_of};
 ghost use Rattle.judge_run.specs.FoundRows.{count_rows, found_rows, outcome_rows, rejected_rows, undecided_rows};
 ghost use Rattle.judge_run.specs.Listing.{IsListed, key_count};
 ghost use Rattle.judge_run.specs.ReasonRows.{reason_rows};
 
-use crate::extents::{recorded_of, tell_extent};
+use crate::extents::{own_of, recorded_of, tell_extent};
 use crate::from_start::{start_lines, tell_start};
 use crate::judged_text::JudgedText;
 use crate::key_word::{key_word, kind_word};
@@ -60,11 +60,11 @@ fn tell_counts(
     form.tell(alloc, text, "fault-keys", Figure::Count(keys as u64))
 }
 
-/// How many calls of a text that was judged were recorded.
-fn recorded_in<S: BuildHasher>(judged: &JudgedText<S>) -> usize
-    ensures { result ≡ recorded_of judged.now.extent (length judged.now.text.history) }
+/// How many calls that are held of a text that was judged are its own.
+fn own_in<S: BuildHasher>(judged: &JudgedText<S>) -> usize
+    ensures { result ≡ own_of judged.now.extent (length judged.now.text.history) }
 {
-    recorded_of(&judged.extent, judged.text.history.len())
+    own_of(&judged.extent, judged.text.history.len())
 }
 
 /// Tells what the reason speaks of for which a text is rejected.
@@ -78,9 +78,9 @@ fn tell_witness<S: BuildHasher>(
     ensures { OnOk result (string_bytes text.new
         ≡ with_rows form (string_bytes text.old)
         (reason_rows judged.now.text.history judged.now.text.lines.items
-        (recorded_of judged.now.extent (length judged.now.text.history)) witness.now)) }
+        (own_of judged.now.extent (length judged.now.text.history)) witness.now)) }
 {
-    let recorded = recorded_in(judged);
+    let recorded = own_in(judged);
     let history = &judged.text.history;
     match tell_reason(
         alloc,
@@ -128,7 +128,7 @@ fn tell_rejected<S: BuildHasher>(
     ensures { OnOk result (string_bytes text.new
         ≡ with_rows form (string_bytes text.old)
         (rejected_rows judged.now.text.history judged.now.text.lines.items
-        (recorded_of judged.now.extent (length judged.now.text.history)) witness.now
+        (own_of judged.now.extent (length judged.now.text.history)) witness.now
         judged.now.faults.faults.items)) }
 {
     form.tell(alloc, text, "verdict", Figure::Word("rejected"))?;
@@ -164,7 +164,7 @@ fn tell_verdict<S: BuildHasher>(
     ensures { OnOk result (string_bytes text.new
         ≡ with_rows form (string_bytes text.old)
         (outcome_rows judged.now.text.history judged.now.text.lines.items
-        (recorded_of judged.now.extent (length judged.now.text.history)) judged.now.found
+        (own_of judged.now.extent (length judged.now.text.history)) judged.now.found
         judged.now.faults.faults.items)) }
 {
     match &judged.found {
@@ -175,7 +175,7 @@ fn tell_verdict<S: BuildHasher>(
 }
 
 /// Tells what was found for the history of a text by rows: `calls`, the number of its calls that were recorded, then how many of them are `puts`,
-/// `removals`, `hits` and `misses`, if values were taken as there from the start their number, `values-from-start`, and `verdict`, which is `accepted`, `rejected` or `undecided`. After `rejected` come the `kind`
+/// `removals`, `hits` and `misses`, each number of its extent that is there (`values-from-start`, `bad-lines`, `calls-forgotten`), and `verdict`, which is `accepted`, `rejected` or `undecided`. After `rejected` come the `kind`
 /// of the reason, its `key` and the `lines` that it speaks of, the number of all faults, `fault-count`, and that of their keys,
 /// `fault-keys`; after `undecided` comes the number of the `undecided-hits`. If memory
 /// is refused, the text is a front of the whole.
@@ -191,7 +191,7 @@ pub fn tell_found<S: BuildHasher>(
         (found_rows judged.now.text.history judged.now.text.lines.items judged.now.extent judged.now.found
         judged.now.faults.faults.items)) }
 {
-    let calls = recorded_in(judged);
+    let calls = recorded_of(&judged.extent, judged.text.history.len());
     form.tell(alloc, text, "calls", Figure::Count(calls as u64))?;
     tell_kinds(alloc, form, text, &judged.extent, &judged.text.history)?;
     tell_extent(alloc, form, text, &judged.extent)?;

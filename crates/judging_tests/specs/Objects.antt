@@ -14,17 +14,18 @@ use Rattle.judge_run.specs.FoundRows.{found_rows}
 use Rattle.judge_run.specs.Kinds.{kind_rows}
 use Rattle.judge_run.specs.Listing.{AreListed}
 use Rattle.judge_run.specs.declared.acceptance.Acceptance.{Acceptance}
+use Rattle.judge_run.specs.Extents.{recorded_of}
 use Rattle.judge_run.specs.declared.extent.Extent.{Extent}
 use Rattle.judge_run.specs.declared.rejection.Rejection.{Rejection}
 
 -- nothing was added to the calls of a text
 abbrev pub as_spelled : Extent
-as_spelled = record { from_start = None }
+as_spelled = record { from_start = None; skipped = None; forgotten = None }
 
 -- the object of a history that is accepted
 abbrev pub accepted_object : Acceptance → List ℕ
 accepted_object acceptance =
-    text_of_rows Json (row (codes "calls") (number (length acceptance.trace.history)) ∷ (kind_rows as_spelled acceptance.trace.history ++ row (codes "verdict") (word (codes "accepted")) ∷ []))
+    text_of_rows Json (row (codes "calls") (number (recorded_of as_spelled (length acceptance.trace.history))) ∷ (kind_rows as_spelled acceptance.trace.history ++ row (codes "verdict") (word (codes "accepted")) ∷ []))
 
 -- the object of a history of this many calls that is rejected for this fault
 abbrev pub rejected_object : ℕ → Fault → List ℕ

@@ -6,4 +6,5 @@ mod rows;
 mod seeds;
 mod streams;
 mod telling;
+mod turns;
 mod warm;

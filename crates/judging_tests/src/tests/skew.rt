@@ -1,7 +1,7 @@
 // Histories whose clocks do not agree: what is found once their calls are widened.
 use certificate_finder::{Found, Witness, find};
 use clock_skew::widened;
-use history_text::read_text;
+use history_text::{Reading, read_text};
 use record_pages::{Key, NEVER, Value};
 use std::alloc::{AllocError, Global};
 use std::hash::{BuildHasherDefault, FoldHasher};
@@ -51,10 +51,10 @@ const ROWS: [Row; 10] = [
 fn found_of(alloc: Global, text: &str, skew: u64) -> Result<Want, AllocError> {
     let known: BuildHasherDefault<FoldHasher> = BuildHasherDefault::new();
     let mut left = text.as_bytes();
-    let Ok(read) = read_text(alloc, known, &mut left) else {
+    let Ok(read) = read_text(alloc, known, Reading::WHOLE, &mut left) else {
         return Err(AllocError);
     };
-    let wide = widened(alloc, &read.history, skew)?;
+    let wide = widened(alloc, &read.text.history, skew)?;
     match find(alloc, &wide)? {
         Found::Accepted(_) => Ok(Want::Accepted),
         Found::Rejected(Witness::Interval(_)) => Ok(Want::Interval),

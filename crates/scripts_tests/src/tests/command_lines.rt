@@ -1,5 +1,6 @@
 // What the words of a command line ask for, and how the program ends.
 use command_line::{Ending, Line, LineFault, ProgramEnd, no_text, parse_line};
+use history_text::Share;
 use judge_run::{CheckRequest, Detail, JudgeRequest, ShowRequest};
 use std::alloc::Global;
 use std::io;
@@ -148,6 +149,75 @@ fn what_is_asked(line: &Result<Line, LineFault>) -> Asked {
         }
         _ => Asked::Other,
     }
+}
+
+/// Whether words ask for the judging of one file of standard input, of this share of keys, with bad lines passed over if that is wanted.
+fn read_so<'a>(alloc: Global, words: &'a [&'a str], share: Option<Share>, skip_bad: bool) -> bool {
+    match parse_line(alloc, words) {
+        Ok(Line::Judge(request)) => {
+            let reading = request.scope.reading;
+            Some(reading.share) == share
+                && reading.skip_bad == skip_bad
+                && request.others.is_empty()
+        }
+        _ => false,
+    }
+}
+
+#[test]
+fn shares_and_bad_lines_are_asked_for(rt: HostRuntime) {
+    let alloc = rt.alloc();
+    let all = Some(Share::ALL);
+    assert!(rt; read_so(alloc, &["kangaroo", "judge", "-"], all, false));
+    assert!(rt; read_so(alloc, &["kangaroo", "judge", "--skip-bad", "-"], all, true));
+    assert!(rt;
+        read_so(
+            alloc,
+            &["kangaroo", "judge", "--keys", "2/8", "-"],
+            Share::new(2, 8),
+            false
+        )
+    );
+    for word in [
+        "--keys=8/8",
+        "--keys=2",
+        "--keys=/8",
+        "--keys=2/",
+        "--keys=1/4294967296",
+        "--keys=a/8",
+        "--keys=1/2/3",
+    ] {
+        assert!(rt; ask_for(alloc, &["kangaroo", "judge", word, "-"], Asked::Usage));
+    }
+}
+
+/// Whether words ask for the judging of these two files.
+fn follow<'a>(alloc: Global, words: &'a [&'a str], first: &str, second: &str) -> bool {
+    match parse_line(alloc, words) {
+        Ok(Line::Judge(request)) => match request.others.as_slice() {
+            [other] => request.file.as_str() == first && other.as_str() == second,
+            _ => false,
+        },
+        _ => false,
+    }
+}
+
+#[test]
+fn several_files_are_asked_for(rt: HostRuntime) {
+    let alloc = rt.alloc();
+    assert!(rt; follow(alloc, &["kangaroo", "judge", "a.txt", "-"], "a.txt", "-"));
+    assert!(rt; follow(alloc, &["kangaroo", "judge", "b", "--json", "a"], "b", "a"));
+    assert!(rt; ask_for(alloc, &["kangaroo", "judge", "-", "-"], Asked::Usage));
+    for word in ["--trace=t", "--picture=p", "--junit=j"] {
+        assert!(rt; ask_for(alloc, &["kangaroo", "judge", word, "a", "b"], Asked::Usage));
+    }
+    assert!(rt;
+        ask_for(
+            alloc,
+            &["kangaroo", "check", "a.trace", "b.trace"],
+            Asked::Usage
+        )
+    );
 }
 
 /// Whether these words ask for this.

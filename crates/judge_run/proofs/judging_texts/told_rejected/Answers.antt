@@ -3,7 +3,7 @@ use Rattle.std.proofs.Common.{◌≡◌, ◌∙◌, ℕ, Bool, List, ap, arith, 
 use Rattle.figures.specs.declared.form.Form.{Form}
 use Rattle.history_text.specs.Text.{text_by}
 use Rattle.judge_run.specs.CallObjects.{with_calls}
-use Rattle.judge_run.specs.Extents.{recorded_of}
+use Rattle.judge_run.specs.Extents.{own_of}
 use Rattle.judge_run.specs.FaultsTold.{listed, more_text}
 use Rattle.judge_run.specs.FromStart.{start_lines}
 use Rattle.judge_run.specs.Told.{IsBehind}
@@ -15,15 +15,15 @@ same_behind form explain rejection told more wanted begun front m b behind =
     subst (λ (text : List ℕ). IsBehind form explain text rejection front told) m
     (subst (λ (text : List ℕ). IsBehind form explain more rejection text told) b behind)
 
-pub returns : goal.returns
-returns g c =
+pub returns-clause-told : goal.returns-clause-told
+returns-clause-told g c =
     let form = c.args.form in
     let calls = c.args.text.history in
     let lines = c.args.text.lines.items in
     let faults = c.args.list.now.faults.items in
-    let told = c.recorded_of-recorded.result in
-    let many = recorded_of c.args.extent.now (length calls) in
-    let recorded : told ≡ many = c.recorded_of-recorded.ensures ∙ ap (recorded_of c.args.extent.now) c.len.ensures.count in
+    let told = c.own_of-recorded.result in
+    let many = own_of c.args.extent.now (length calls) in
+    let recorded : told ≡ many = c.own_of-recorded.ensures ∙ ap (own_of c.args.extent.now) c.len.ensures.count in
     let begun =
     c.in_ok-begun.ensures
     ∙ ap (λ (ls : List ℕ). with_calls form calls ls told c.args.witness (string_bytes c.args.begun)) c.deref.ensures.value

@@ -151,6 +151,7 @@ standard input: 0 calls, and --at-least asks for 1: see whether the recorder wro
 /// Judging a file, with a picture and a trace.
 fn judge_of(alloc: Global, file: &str) -> Result<JudgeRequest, AllocError> {
     Ok(JudgeRequest {
+        others: Vec::new(alloc),
         file: FileName::new(alloc, file)?,
         detail: Detail::NONE,
         json: false,

@@ -1,5 +1,6 @@
 // What is reported of histories whose cache was filled before they begin.
 use figures::Form;
+use history_text::Reading;
 use judge_run::{Detail, JudgeEnd, Scope, answer_judge};
 use std::alloc::Global;
 use std::hash::{BuildHasherDefault, FoldHasher};
@@ -18,8 +19,17 @@ struct Case {
 
 /// Values that were there from the start are taken as such.
 const WARM: Scope = Scope {
-    skew: 0,
     warm: true,
+    ..Scope::WHOLE
+};
+
+/// Bad lines are passed over.
+const SKIPPING: Scope = Scope {
+    reading: Reading {
+        skip_bad: true,
+        ..Reading::WHOLE
+    },
+    ..Scope::WHOLE
 };
 
 /// All faults, and why.
@@ -45,7 +55,7 @@ the put at 0 (line 1) was not recorded: its value was there from the start, read
 ";
 
 /// Texts, each with what is reported of it, which was worked out by hand.
-const CASES: [Case; 7] = [
+const CASES: [Case; 9] = [
     Case {
         text: STALE,
         scope: Scope::WHOLE,
@@ -107,15 +117,30 @@ const CASES: [Case; 7] = [
     },
     Case {
         text: "a 5 6 remove k\nb 8 9 hit k v\n",
-        scope: Scope {
-            skew: 1,
-            warm: true,
-        },
+        scope: Scope { skew: 1, ..WARM },
         form: Form::Lines,
         detail: Detail::NONE,
         least: 0,
         told: "accepted 2 calls\n1 values were taken as there from the start\n",
         end: JudgeEnd::Done,
+    },
+    Case {
+        text: "a 1 2 put k v\nbad\nb 3 4 hit k v\n",
+        scope: SKIPPING,
+        form: Form::Lines,
+        detail: Detail::NONE,
+        least: 0,
+        told: "accepted 2 calls\n1 bad lines were passed over\n",
+        end: JudgeEnd::Done,
+    },
+    Case {
+        text: "a 1 2 put k v\nbad\n",
+        scope: SKIPPING,
+        form: Form::Json,
+        detail: Detail::NONE,
+        least: 2,
+        told: "{\"calls\":1,\"puts\":1,\"removals\":0,\"hits\":0,\"misses\":0,\"bad-lines\":1,\"verdict\":\"accepted\"}\n",
+        end: JudgeEnd::TooFew,
     },
 ];
 

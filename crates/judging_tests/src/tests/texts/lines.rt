@@ -1,5 +1,5 @@
 // What lines spell, which are bad and why, and what is written of them.
-use history_text::{LineCause, ReadTextFault, TextHistory, read_text, write_text};
+use history_text::{LineCause, ReadTextFault, Reading, TextHistory, read_text, write_text};
 use std::alloc::{AllocError, Global};
 use std::hash::{BuildHasherDefault, FoldHasher};
 use std::test::Fail;
@@ -201,7 +201,10 @@ pub(super) fn read(
 ) -> Result<TextHistory<BuildHasherDefault<FoldHasher>>, ReadTextFault> {
     let hash_builder: BuildHasherDefault<FoldHasher> = BuildHasherDefault::new();
     let mut left = text;
-    read_text(alloc, hash_builder, &mut left)
+    match read_text(alloc, hash_builder, Reading::WHOLE, &mut left) {
+        Ok(read) => Ok(read.text),
+        Err(fault) => Err(fault),
+    }
 }
 
 /// What is reported of a text.

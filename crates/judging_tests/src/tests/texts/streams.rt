@@ -1,7 +1,7 @@
 // Readers and writers that give or take little, that fail, or that never end.
 use crate::tests::texts::lines::read;
 use history_text::{
-    BadLine, LineCause, ReadTextFault, TextHistory, WriteTextFault, read_text, write_text,
+    BadLine, LineCause, ReadTextFault, Reading, TextHistory, WriteTextFault, read_text, write_text,
 };
 use std::alloc::Global;
 use std::hash::{BuildHasherDefault, FoldHasher};
@@ -84,7 +84,10 @@ fn read_from<R: Read>(
     reader: &mut R,
 ) -> Result<TextHistory<BuildHasherDefault<FoldHasher>>, ReadTextFault> {
     let hash_builder: BuildHasherDefault<FoldHasher> = BuildHasherDefault::new();
-    read_text(alloc, hash_builder, reader)
+    match read_text(alloc, hash_builder, Reading::WHOLE, reader) {
+        Ok(read) => Ok(read.text),
+        Err(fault) => Err(fault),
+    }
 }
 
 #[test]

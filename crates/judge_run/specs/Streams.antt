@@ -1,0 +1,226 @@
+-- What is judged of a text that is read as a stream.
+use Rattle.std.specs.Prelude.{◌≡◌, ◌≢◌, ◌↔◌, ◌⊎◌, ℕ, ◌+◌, ◌-◌, ◌<◌, Bool, true, false, List, [], ◌∷◌, ◌++◌, IfSome, length, map, take, slice_get, Option, Some, None, Err, unwrap_or}
+use Rattle.std.specs.Io.KnownBytes.{IsAtEnd}
+use Rattle.trace_file.specs.declared.call.Call.{Call}
+use Rattle.clock_skew.specs.Widening.{widened}
+use Rattle.history_text.specs.declared.bad_line.BadLine.{BadLine}
+use Rattle.history_text.specs.declared.line_cause.LineCause.TheVariants.{BeforeWindow, TooManyCalls}
+use Rattle.history_text.specs.declared.read_text_fault.ReadTextFault.{ReadTextFault}
+use Rattle.history_text.specs.declared.read_text_fault.ReadTextFault.TheVariants.{Bad, ReadFault, OutOfMemory}
+use Rattle.history_text.specs.Outcome.{IsFaultOf, Left}
+use Rattle.history_text.specs.Pieces.{GoesOn, IsFaultFrom, Progress}
+use Rattle.history_text.specs.Text.{Text, calls_of, endless, no_text, read_by, text_by}
+use Rattle.history_window.specs.Standing.{Acceptable, StartFrom}
+use Rattle.certificate_checker.specs.Orders.{in_order}
+use Rattle.certificate_finder.specs.declared.found.Found.{Found}
+use Rattle.certificate_finder.specs.declared.found.Found.TheVariants as verdicts
+use Rattle.certificate_finder.specs.Finding.{IfRejected, IsFound}
+use Rattle.history_window.specs.Streams.{ArePast, ArePieces, IsKeptAfter, Piece, all_in, calls_in, judged_in, judged_lines, last_end, lines_in, lines_of, puts_in}
+use Rattle.judge_run.specs.declared.extent.Extent.{Extent}
+use Rattle.judge_run.specs.declared.forgotten.Forgotten.{Forgotten}
+use Rattle.judge_run.specs.declared.kinds.CountedKind.{CountedKind}
+use Rattle.judge_run.specs.declared.kinds.CountedKind.TheVariants.{Put, Removal, Hit, Miss}
+use Rattle.judge_run.specs.declared.fault_list.FaultList.{FaultList}
+use Rattle.judge_run.specs.declared.judged_text.JudgedText.{JudgedText}
+use Rattle.judge_run.specs.declared.kind_counts.KindCounts.{KindCounts}
+use Rattle.judge_run.specs.declared.piece_end.PieceEnd.{PieceEnd}
+use Rattle.judge_run.specs.declared.piece_end.PieceEnd.TheVariants.{Over, On}
+use Rattle.judge_run.specs.declared.scope.Scope.{Scope}
+use Rattle.judge_run.specs.declared.stream.Stream.{Stream}
+use Rattle.judge_run.specs.Listing.{IsListed}
+use Rattle.judge_run.specs.Scopes.{IsCounted, IsJudged}
+use Rattle.judge_run.specs.Kinds as kinds
+
+-- these calls, widened by the skew of the stamps, stand on these lines in what was read so far. If the bytes are known, what is left of them gives, after it, what all bytes give
+pub record IsReadSoFar (scope : Scope) (known left : Option (List ℕ)) (progress : Progress) (calls : List Call) (lines : List ℕ) (callers : List (List ℕ)) : Type 0 where
+  pub spelled : Text
+  pub reading : progress.reading ≡ scope.reading
+  pub goes_on : GoesOn endless scope.reading known (read_by no_text 0) 1 left (read_by spelled progress.skipped) progress.number
+  pub calls_are : calls ≡ map (widened scope.skew) spelled.calls
+  pub lines_are : lines ≡ spelled.lines
+  pub callers_are : callers ≡ spelled.callers
+
+-- how many calls of a kind were forgotten
+abbrev pub forgotten_of : CountedKind → Forgotten → ℕ
+forgotten_of Put forgotten = forgotten.puts
+forgotten_of Removal forgotten = forgotten.removals
+forgotten_of Hit forgotten = forgotten.hits
+forgotten_of Miss forgotten = forgotten.misses
+
+-- of each kind, all calls are those of this list and those that were forgotten
+abbrev pub AreCounted : Forgotten → List Call → List Call → Type 0
+AreCounted forgotten all list = (kind : CountedKind) → kinds.calls_of kind all ≡ kinds.calls_of kind list + forgotten_of kind forgotten
+
+-- how many puts were added, if that was asked for
+abbrev pub added_if : Bool → List Call → Option ℕ
+added_if true puts = Some (length puts)
+added_if false puts = None
+
+-- the stamp at which calls that come after these have to start, or later
+abbrev pub bound_after : ℕ → List Call → ℕ
+bound_after window calls = last_end 0 calls - window
+
+-- this is held of a stream: what was kept at the last acceptance, which was of these pieces, and after it all calls that were read since then. Those start at the stamp of that acceptance or later
+pub record IsTaken (scope : Scope) (window : ℕ) (known left : Option (List ℕ)) (progress : Progress) (held : Text) (latest : ℕ) (forgotten : Forgotten) : Type 0 where
+  pub pieces : List Piece
+  pub are : ArePieces window scope.warm pieces
+  pub kept : List Call
+  pub kept_lines : List ℕ
+  pub after : IsKeptAfter (bound_after window (calls_in pieces)) pieces kept kept_lines
+  pub calls : List Call
+  pub lines : List ℕ
+  pub late : StartFrom (bound_after window (calls_in pieces)) calls
+  pub latest_is : latest ≡ last_end 0 (calls_in pieces ++ calls)
+  pub calls_are : held.calls ≡ kept ++ calls
+  pub lines_are : held.lines ≡ kept_lines ++ lines
+  pub as_many : length held.lines ≡ length held.calls
+  pub read : IsReadSoFar scope known left progress (calls_in pieces ++ calls) (lines_in pieces ++ lines) held.callers
+  pub counted : AreCounted forgotten (all_in pieces) kept
+  pub added : forgotten.added ≡ puts_in pieces
+
+-- the same between two readings: the calls that are read next have to start at this stamp or later
+pub record IsGoing (scope : Scope) (window : ℕ) (known left : Option (List ℕ)) (progress : Progress) (held : Text) (bound latest : ℕ) (forgotten : Forgotten) : Type 0 where
+  pub taken : IsTaken scope window known left progress held latest forgotten
+  pub bound_is : bound ≡ latest - window
+
+-- these calls were read after all of earlier readings, and the one on a line is the first of them that starts before the stamp that those give
+pub record IsBefore (scope : Scope) (window : ℕ) (known : Option (List ℕ)) (line : ℕ) : Type 0 where
+  pub pieces : List Piece
+  pub are : ArePieces window scope.warm pieces
+  pub since : List Call
+  pub since_lines : List ℕ
+  pub late : StartFrom (bound_after window (calls_in pieces)) since
+  pub calls : List Call
+  pub lines : List ℕ
+  pub callers : List (List ℕ)
+  pub left : Option (List ℕ)
+  pub progress : Progress
+  pub read : IsReadSoFar scope known left progress ((calls_in pieces ++ since) ++ calls) ((lines_in pieces ++ since_lines) ++ lines) callers
+  pub place : ℕ
+  pub call : Call
+  pub at : slice_get calls place ≡ Some call
+  pub line_is : slice_get lines place ≡ Some line
+  pub before : call.start < bound_after window (calls_in pieces ++ since)
+  pub first : StartFrom (bound_after window (calls_in pieces ++ since)) (take place calls)
+
+-- from the beginning of some reading on there are more calls than a history may have: the bad line is that of the first one too many
+pub record AreTooMany (scope : Scope) (known : Option (List ℕ)) (bad : BadLine) : Type 0 where
+  pub calls : List Call
+  pub lines : List ℕ
+  pub callers : List (List ℕ)
+  pub left : Option (List ℕ)
+  pub progress : Progress
+  pub read : IsReadSoFar scope known left progress calls lines callers
+  pub first : IsFaultFrom left progress (text_by [] [] callers) (Bad bad)
+
+-- a line is the first bad one of these bytes, however many calls there are; or there are too many from some reading on
+pub record IsBadLine (scope : Scope) (bytes : List ℕ) (bad : BadLine) : Type 0 where
+  pub spelled : bad.cause ≢ TooManyCalls → calls_of scope.reading bytes ≡ Err bad
+  pub many : bad.cause ≡ TooManyCalls → AreTooMany scope (Some bytes) bad
+
+-- why a stream is not judged: a line is bad, or its call starts too early; or the reader or memory refused something
+abbrev pub IsStreamFault : Scope → ℕ → Option (List ℕ) → ReadTextFault → Type 0
+IsStreamFault scope window known (Bad bad) =
+    IfSome known (λ bytes. IsBadLine scope bytes bad ⊎ ((bad.cause ≡ BeforeWindow) × IsBefore scope window known bad.number))
+IsStreamFault scope window known ReadFault = Unit {0}
+IsStreamFault scope window known OutOfMemory = Unit {0}
+
+-- a piece was judged, the last one of these: its calls, which are all since the last acceptance, with what was kept before them, and the puts that were added
+pub record IsJudgedLast (scope : Scope) (window : ℕ) (known left : Option (List ℕ)) (progress : Progress) (judged : Text) (latest : ℕ) (forgotten : Forgotten) (from_start : Option ℕ) : Type 0 where
+  pub last : Piece
+  pub earlier : List Piece
+  pub are : ArePieces window scope.warm (last ∷ earlier)
+  pub latest_is : latest ≡ last_end 0 (calls_in (last ∷ earlier))
+  pub calls_are : judged.calls ≡ judged_in last
+  pub lines_are : judged.lines ≡ judged_lines last
+  pub as_many : length judged.lines ≡ length judged.calls
+  pub own_many : length (last.kept_lines ++ last.lines) ≡ length (last.kept ++ last.calls)
+  pub read : IsReadSoFar scope known left progress (calls_in (last ∷ earlier)) (lines_in (last ∷ earlier)) judged.callers
+  pub added : from_start ≡ added_if scope.warm last.puts
+  pub counted : AreCounted forgotten (all_in (last ∷ earlier)) (judged_in last)
+  pub added_before : forgotten.added ≡ puts_in earlier
+
+-- all calls that were judged are told. They are acceptable exactly if all calls of all pieces are, with the puts that were added. If it was decided whether they are, all was read
+pub record IsToldWhole (known left : Option (List ℕ)) (decided : Bool) (last : Piece) (earlier : List Piece) (told : Text) : Type 0 where
+  pub calls_are : told.calls ≡ judged_in last
+  pub lines_are : told.lines ≡ judged_lines last
+  pub stand : Acceptable told.calls ↔ Acceptable (all_in (last ∷ earlier))
+  pub ended : decided ≡ true → IfSome known (λ _. IsAtEnd left)
+
+-- the calls that were judged are told without recent hits, and not as accepted. If they are not acceptable, all calls of all pieces are not, with the puts that were added, whatever comes later
+pub record IsToldPast (window : ℕ) (accepted : Bool) (last : Piece) (earlier : List Piece) (told : Text) : Type 0 where
+  pub past : List ℕ
+  pub are : ArePast (bound_after window (calls_in (last ∷ earlier))) (judged_in last) past
+  pub calls_are : told.calls ≡ in_order (judged_in last) past
+  pub lines_are : told.lines ≡ lines_of (judged_lines last) past
+  pub unaccepted : accepted ≡ false
+  pub excluded : ¬ Acceptable told.calls → (later : List Call) → StartFrom (bound_after window (calls_in (last ∷ earlier))) later → ¬ Acceptable (all_in (last ∷ earlier) ++ later)
+
+-- the calls of a text that is read as a stream are told, by whether they were accepted and whether that was decided. All of those that were judged with the last piece are, or, if more may come, they are rejected without recent hits
+pub record IsStreamed (scope : Scope) (window : ℕ) (known : Option (List ℕ)) (accepted decided : Bool) (told : Text) (extent : Extent) : Type 0 where
+  pub left : Option (List ℕ)
+  pub progress : Progress
+  pub judged : Text
+  pub latest : ℕ
+  pub forgotten : Forgotten
+  pub is : IsJudgedLast scope window known left progress judged latest forgotten extent.from_start
+  pub told_is : IsToldWhole known left decided is.last is.earlier told ⊎ IsToldPast window accepted is.last is.earlier told
+  pub callers_are : told.callers ≡ judged.callers
+  pub forgotten_is : extent.forgotten ≡ Some forgotten
+  pub skipped : IsCounted scope.reading.skip_bad progress.skipped extent.skipped
+
+-- whether a certificate was found
+abbrev pub was_accepted : Found → Bool
+was_accepted (verdicts.Accepted certificate) = true
+was_accepted (verdicts.Rejected witness) = false
+was_accepted (verdicts.Undecided hits) = false
+
+-- whether it was decided that there is one
+abbrev pub was_decided : Found → Bool
+was_decided (verdicts.Accepted certificate) = true
+was_decided (verdicts.Rejected witness) = true
+was_decided (verdicts.Undecided hits) = false
+
+-- what was found for calls is so, all their faults are listed if they are rejected, and each has its line
+pub record IsVerdict (calls : List Call) (lines : List ℕ) (what : Found) (list : FaultList) : Type 0 where
+  pub found : IsFound calls what
+  pub faults : IfRejected what (λ _. IsListed calls list)
+  pub as_many : length lines ≡ length calls
+
+-- a fact of the answer, if there is one
+abbrev pub IfOver : {S H : Type 0} → PieceEnd S H → (JudgedText S H → Type 0) → Type 0
+IfOver (Over judged) P = P judged
+IfOver (On stream) P = Unit {0}
+
+-- a fact of the stream, if it goes on
+abbrev pub IfOn : {S H : Type 0} → PieceEnd S H → (Stream S H → Type 0) → Type 0
+IfOn (Over judged) P = Unit {0}
+IfOn (On stream) P = P stream
+
+-- more was forgotten: of each kind the calls that were counted before and are no longer there, and the puts that were added
+pub record IsGrown (forgotten new : Forgotten) (before after : KindCounts) (from_start : Option ℕ) : Type 0 where
+  pub puts : before.puts + forgotten.puts ≡ after.puts + new.puts
+  pub removals : before.removals + forgotten.removals ≡ after.removals + new.removals
+  pub hits : before.hits + forgotten.hits ≡ after.hits + new.hits
+  pub misses : before.misses + forgotten.misses ≡ after.misses + new.misses
+  pub added : new.added ≡ forgotten.added + unwrap_or from_start 0
+
+-- what is judged of a text in a scope: all of it, as it is read whole or as a stream with a window
+abbrev pub IsJudgedBy : Option ℕ → Scope → Option (List ℕ) → Bool → Bool → Text → Extent → Type 0
+IsJudgedBy None scope known accepted decided judged extent = IsJudged scope known judged extent
+IsJudgedBy (Some window) scope known accepted decided judged extent = IsStreamed scope window known accepted decided judged extent
+
+-- all was read; of a stream that is so if it was accepted
+abbrev pub IsEndedBy : Option ℕ → Bool → Option (List ℕ) → Type 0
+IsEndedBy None accepted left = IsAtEnd left
+IsEndedBy (Some window) accepted left = accepted ≡ true → IsAtEnd left
+
+-- why a text is not judged
+abbrev pub IsFaultBy : Option ℕ → Scope → Option (List ℕ) → ReadTextFault → Type 0
+IsFaultBy None scope known fault = IfSome known (λ bytes. IsFaultOf scope.reading bytes fault)
+IsFaultBy (Some window) scope known fault = IsStreamFault scope window known fault
+
+-- how far a reader was read then. Of a stream nothing is said of it
+abbrev pub IsLeftBy : Option ℕ → Scope → Option (List ℕ) → Option (List ℕ) → ReadTextFault → Type 0
+IsLeftBy None scope old new fault = fault ≢ OutOfMemory → Left scope.reading old new fault
+IsLeftBy (Some window) scope old new fault = Unit {0}

@@ -1,0 +1,73 @@
+// How many calls of each kind were forgotten.
+ghost use Rattle.std.specs.Prelude.{◌≡◌, ◌+◌, IfSome, unwrap_or};
+ghost use Rattle.judge_run.specs.Kinds.{counts_in};
+ghost use Rattle.judge_run.specs.Streams.{IsGrown};
+
+use crate::forgotten::Forgotten;
+use crate::kinds::{CountedKind, calls_of};
+use trace_file::History;
+
+/// How many calls of each kind a history has.
+#[derive(Drop)]
+pub(crate) struct KindCounts {
+    puts: usize,
+    removals: usize,
+    hits: usize,
+    misses: usize,
+}
+
+/// How many calls of each kind a history has.
+pub(crate) fn counts_of(history: &History) -> KindCounts
+    ensures { result ≡ counts_in history.now }
+{
+    KindCounts {
+        puts: calls_of(history, CountedKind::Put),
+        removals: calls_of(history, CountedKind::Removal),
+        hits: calls_of(history, CountedKind::Hit),
+        misses: calls_of(history, CountedKind::Miss),
+    }
+}
+
+/// A number, and by how much another one became less, if it did not grow and 32 bits can hold the sum.
+fn more(count: u32, before: usize, after: usize) -> Option<u32>
+    ensures { IfSome result (λ sum. before + count ≡ after + sum) }
+{
+    let gone = before.checked_sub(after)?;
+    let sum = (count as usize).checked_add(gone)?;
+    u32::try_from(sum).ok()
+}
+
+/// How many puts were added with these, if 32 bits can hold it.
+fn added_with(added: u32, from_start: Option<usize>) -> Option<u32>
+    ensures { IfSome result (λ sum. sum ≡ added + unwrap_or from_start 0) }
+{
+    let Some(values) = from_start else {
+        return Some(added);
+    };
+    let sum = (added as usize).checked_add(values)?;
+    u32::try_from(sum).ok()
+}
+
+/// What was forgotten, with the calls that went, of those that were judged, and the puts that were added to them; if none of the counts
+/// grew, and 32 bits can hold each number.
+pub(crate) fn grown(
+    forgotten: Forgotten,
+    before: &KindCounts,
+    after: &KindCounts,
+    from_start: Option<usize>,
+) -> Option<Forgotten>
+    ensures { IfSome result (λ more. IsGrown forgotten more before.now after.now from_start) }
+{
+    let puts = more(forgotten.puts, before.puts, after.puts)?;
+    let removals = more(forgotten.removals, before.removals, after.removals)?;
+    let hits = more(forgotten.hits, before.hits, after.hits)?;
+    let misses = more(forgotten.misses, before.misses, after.misses)?;
+    let added = added_with(forgotten.added, from_start)?;
+    Some(Forgotten {
+        puts,
+        removals,
+        hits,
+        misses,
+        added,
+    })
+}

@@ -1,0 +1,13 @@
+// What comes of judging a piece.
+use crate::judged_text::JudgedText;
+use crate::stream::Stream;
+use std::hash::BuildHasher;
+
+/// What comes of judging a piece.
+#[derive(Drop)]
+pub(crate) enum PieceEnd<S: BuildHasher> {
+    /// That was all: the input is over, or the calls so far are not accepted.
+    Over(JudgedText<S>),
+    /// The calls so far are accepted, and the next piece is read.
+    On(Stream<S>),
+}

@@ -1,0 +1,132 @@
+// Reading a piece of a text.
+ghost use Rattle.std.specs.Prelude.{◌≡◌, ◌++◌, IfErr, IfOk, IfSome, List, ℕ, OnOk, Option, true};
+ghost use Rattle.std.specs.Io.KnownBytes.{IsAtEnd};
+ghost use Rattle.history_text.specs.Pieces.{left_of};
+ghost use Rattle.history_text.specs.Reading.{IsAhead};
+ghost use Rattle.history_text.specs.Text.{text_by};
+ghost use Rattle.judge_run.specs.Streams.{IsGoing, IsStreamFault, IsTaken};
+
+use crate::scope::Scope;
+use crate::scoping::scoped;
+use crate::stream::Stream;
+use crate::taken_piece::TakenPiece;
+use history_text::{BadLine, LineCause, ReadTextFault, TextHistory, TextReader};
+use history_window::{first_before, last_end};
+use std::alloc::{AllocError, Global};
+use std::hash::BuildHasher;
+use std::io::Read;
+use trace_file::History;
+
+/// Reads the next piece: so many calls, as many as are kept if those are more, and at least one; or what is left. The calls are
+/// widened by the skew. One that starts before the stamp of the stream is a bad line.
+pub(crate) fn take_piece<S: BuildHasher + Drop, R: Read>(
+    alloc: Global,
+    scope: Scope,
+    least: usize,
+    stream: Stream<S>,
+    lines: &mut TextReader,
+    reader: &mut R,
+) -> Result<TakenPiece<S>, ReadTextFault>
+    requires { IsAhead lines.old.ahead (R.remaining reader.old) }
+    ensures ahead { IsAhead lines.new.ahead (R.remaining reader.new) }
+    ensures taken { IfOk result (λ taken. (window : ℕ) (known : Option (List ℕ))
+        → IsGoing scope window known (left_of lines.old (R.remaining reader.old)) lines.old
+        (text_by stream.text.history stream.text.lines.items stream.text.callers)
+        stream.bound stream.latest stream.forgotten
+        → IsTaken scope window known (left_of lines.new (R.remaining reader.new)) lines.new
+        (text_by taken.text.history taken.text.lines.items taken.text.callers)
+        taken.latest taken.forgotten) }
+    ensures end { IfOk result (λ taken. taken.over ≡ true → IsAtEnd (R.remaining reader.new)) }
+    ensures over { IfOk result (λ taken. taken.over ≡ true
+        → IfSome (left_of lines.old (R.remaining reader.old))
+        (λ _. IsAtEnd (left_of lines.new (R.remaining reader.new)))) }
+    ensures fault { IfErr result (λ fault. (window : ℕ) (known : Option (List ℕ))
+        → IsGoing scope window known (left_of lines.old (R.remaining reader.old)) lines.old
+        (text_by stream.text.history stream.text.lines.items stream.text.callers)
+        stream.bound stream.latest stream.forgotten
+        → IsStreamFault scope window known fault) }
+{
+    let Stream {
+        text,
+        bound,
+        latest,
+        forgotten,
+    } = stream;
+    let TextHistory {
+        history,
+        lines: places,
+        callers,
+    } = text;
+    let most = least.max(history.len()).max(1);
+    let mut piece = TextHistory {
+        history: History::new(alloc),
+        lines: Vec::new(alloc),
+        callers,
+    };
+    let over = match lines.take_calls(alloc, &mut piece, reader, most) {
+        Ok(over) => over,
+        Err(fault) => return Err(fault),
+    };
+    let Ok(piece) = scoped(alloc, piece, scope) else {
+        return Err(ReadTextFault::OutOfMemory);
+    };
+    if let Some(late) = first_before(&piece.history, bound) {
+        return Err(before_window(piece.lines[late]));
+    }
+    let latest = last_end(&piece.history, latest);
+    let Ok(text) = joined(history, places, piece) else {
+        return Err(ReadTextFault::OutOfMemory);
+    };
+    Ok(TakenPiece {
+        text,
+        latest,
+        forgotten,
+        over,
+    })
+}
+
+/// The fault of a call on this line that starts too early.
+fn before_window(line: u32) -> ReadTextFault
+    ensures { result ≡ ReadTextFault.Bad (record { number = line; cause = LineCause.BeforeWindow }) }
+{
+    ReadTextFault::Bad(BadLine {
+        number: u64::from(line),
+        cause: LineCause::BeforeWindow,
+    })
+}
+
+/// Calls, which stand on these lines, and after them those of a text.
+fn joined<S: BuildHasher + Drop>(
+    history: History,
+    lines: Vec<u32>,
+    piece: TextHistory<S>,
+) -> Result<TextHistory<S>, AllocError>
+    ensures { IfOk result (λ text. text_by text.history text.lines.items text.callers
+        ≡ text_by (history ++ piece.history) (lines.items ++ piece.lines.items) piece.callers) }
+{
+    let TextHistory {
+        history: more,
+        lines: places,
+        callers,
+    } = piece;
+    let mut history = history;
+    let mut lines = lines;
+    append(&mut history, &more)?;
+    lines.extend_from_slice(&places)?;
+    Ok(TextHistory {
+        history,
+        lines,
+        callers,
+    })
+}
+
+/// Appends the calls of a history.
+fn append(history: &mut History, more: &History) -> Result<(), AllocError>
+    ensures { OnOk result (history.new ≡ history.old ++ more.now) }
+{
+    for position in 0..more.len() {
+        let call = more.at(position);
+        history.push_ref(&call)?;
+    }
+    Ok(())
+}
