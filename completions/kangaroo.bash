@@ -17,22 +17,22 @@ _kangaroo() {
     case $command:$before in
         check:--picture | judge:--picture | judge:--trace | judge:--junit | run:--trace) wanted=files ;;
         run:--device | serve-load:--device) wanted=folders ;;
-        judge:--at-least | judge:--skew | judge:--keys | show:--key | run:--lanes |\
-            run:--sets | run:--memory | run:--segments | run:--segment-pages | run:--entries |\
-            run:--threshold | run:--admit | run:--callers | run:--operations | run:--keys |\
-            run:--value-bytes | run:--gets | run:--removes | run:--workers | run:--seed |\
-            run:--ttl | serve-load:--lanes | serve-load:--sets | serve-load:--memory | serve-load:--segments |\
-            serve-load:--segment-pages | serve-load:--entries | serve-load:--threshold | serve-load:--admit | serve-load:--shards |\
-            serve-load:--leases | serve-load:--bring-back | serve-load:--size | serve-load:--memory-bytes | serve-load:--callers |\
-            serve-load:--operations | serve-load:--keys | serve-load:--value-bytes | serve-load:--gets | serve-load:--removes |\
-            serve-load:--workers | serve-load:--seed | serve-load:--ttl | serve-load:--seconds) wanted=nothing ;;
+        judge:--at-least | judge:--skew | judge:--keys | judge:--window | show:--key |\
+            run:--lanes | run:--sets | run:--memory | run:--segments | run:--segment-pages |\
+            run:--entries | run:--threshold | run:--admit | run:--callers | run:--operations |\
+            run:--keys | run:--value-bytes | run:--gets | run:--removes | run:--workers |\
+            run:--seed | run:--ttl | serve-load:--lanes | serve-load:--sets | serve-load:--memory |\
+            serve-load:--segments | serve-load:--segment-pages | serve-load:--entries | serve-load:--threshold | serve-load:--admit |\
+            serve-load:--shards | serve-load:--leases | serve-load:--bring-back | serve-load:--size | serve-load:--memory-bytes |\
+            serve-load:--callers | serve-load:--operations | serve-load:--keys | serve-load:--value-bytes | serve-load:--gets |\
+            serve-load:--removes | serve-load:--workers | serve-load:--seed | serve-load:--ttl | serve-load:--seconds) wanted=nothing ;;
     esac
     if [[ -z $wanted && $word == -* ]]; then
         case $command in
             '') COMPREPLY=($(compgen -W '--unproved -h --help -V --version' -- "$word")) ;;
             script) COMPREPLY=($(compgen -W '-h --help' -- "$word")) ;;
             check) COMPREPLY=($(compgen -W '--explain --json --picture -h --help' -- "$word")) ;;
-            judge) COMPREPLY=($(compgen -W '--explain --json --picture --all --trace --junit --at-least --skew --warm --keys --skip-bad -h --help' -- "$word")) ;;
+            judge) COMPREPLY=($(compgen -W '--explain --json --picture --all --trace --junit --at-least --skew --warm --keys --skip-bad --window -h --help' -- "$word")) ;;
             show) COMPREPLY=($(compgen -W '--key -h --help' -- "$word")) ;;
             run) COMPREPLY=($(compgen -W '--device --trace --json -h --help --lanes --sets --memory --segments --segment-pages --entries --threshold --admit --callers --operations --keys --value-bytes --gets --removes --workers --seed --ttl' -- "$word")) ;;
             serve-load) COMPREPLY=($(compgen -W '--device --json -h --help --lanes --sets --memory --segments --segment-pages --entries --threshold --admit --shards --leases --bring-back --size --memory-bytes --callers --operations --keys --value-bytes --gets --removes --workers --seed --ttl --seconds --zipf' -- "$word")) ;;
