@@ -5,8 +5,8 @@ ghost use Rattle.std.specs.List.{filter_map};
 use std::alloc::{AllocError, Global};
 use trace_file::History;
 
-/// The calls at these positions, copied in their order. A position at which no call stands is passed over.
-pub(crate) fn history_at(
+/// The calls at these positions, copied in their order. A position at which no call stands is passed over. If memory is refused, nothing was made.
+pub fn history_at(
     alloc: Global,
     history: &History,
     positions: &[u32],

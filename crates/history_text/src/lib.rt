@@ -29,6 +29,7 @@ pub use bad_line::BadLine;
 pub use callers::{Callers, MAX_CALLERS};
 pub use coding::word;
 pub use from_reader::read_text;
+pub use keeping::history_at;
 pub use key_word::key_bytes;
 pub use laws::{history_laws, reading_laws, word_laws};
 pub use line_cause::LineCause;
