@@ -367,7 +367,9 @@ goes_first scope (Some bytes) = refl
 
 -- nothing was read yet
 none_counted : (forgotten : Forgotten) → forgotten ≡ record { puts = 0; removals = 0; hits = 0; misses = 0; added = 0 } → AreCounted forgotten [] []
-none_counted forgotten none = λ kind. sym (ap (streams.forgotten_of kind) none ∙ none_of kind)
+none_counted forgotten none = λ kind.
+    let gone : streams.forgotten_of kind forgotten ≡ 0 = ap (streams.forgotten_of kind) none ∙ none_of kind in
+    omega (arith, gone)
 
 pub going_first : (scope : Scope) (window : ℕ) (known : Option (List ℕ)) (progress : Progress) (held : Text) (bound latest : ℕ) (forgotten : Forgotten) → progress ≡ record { reading = scope.reading; number = 1; skipped = 0; ahead = record { bytes = []; over = false } } → held ≡ no_text → bound ≡ 0 → latest ≡ 0 → forgotten ≡ record { puts = 0; removals = 0; hits = 0; misses = 0; added = 0 } → IsGoing scope window known (left_of progress known) progress held bound latest forgotten
 going_first scope window known progress held bound latest forgotten progress_is held_is bound_is latest_is none =

@@ -20,11 +20,11 @@ loop-preserved g c = record {
   going = c.in-Ok-On.ensures.on (g.R.Read.remaining c.args.reader.now) c.loop.invariant.going;
 }
 
-pub judge_next-requires-ahead : goal.judge_next-requires-ahead
-judge_next-requires-ahead g c = c.loop.invariant.ahead
+pub judge_next-requires-clause-ahead : goal.judge_next-requires-clause-ahead
+judge_next-requires-clause-ahead g c = c.loop.invariant.ahead
 
-pub judge_next-requires-going : goal.judge_next-requires-going
-judge_next-requires-going g c = (g.R.Read.remaining c.args.reader.now, c.loop.invariant.going)
+pub judge_next-requires-clause-going : goal.judge_next-requires-clause-going
+judge_next-requires-clause-going g c = (g.R.Read.remaining c.args.reader.now, c.loop.invariant.going)
 
 pub returns-in-Ok-Over-clause-text : goal.returns-in-Ok-Over-clause-text
 returns-in-Ok-Over-clause-text g c = c.in-Ok-Over.ensures.streamed (g.R.Read.remaining c.args.reader.now) c.loop.invariant.going

@@ -9,13 +9,13 @@ use Rattle.judge_run.specs.Streams.{was_accepted, was_decided}
 use Rattle.judge_run.proofs.StreamLaws.{streamed_past}
 use Rattle.judge_run.proofs.streaming.told_past.Goals as goal
 
-pub told_with-requires-found : goal.told_with-requires-found
-told_with-requires-found g c =
+pub told_with-requires-clause-found : goal.told_with-requires-clause-found
+told_with-requires-clause-found g c =
     let calls = c.args.judged.warm.text.history in
     subst (λ (cs : List Call). IsFound cs c.args.found) (sym (c.in_ok-keep.ensures.history ∙ ap (in_order calls) c.deref.ensures.value)) c.requires.found
 
-pub told_with-requires-as_many : goal.told_with-requires-as_many
-told_with-requires-as_many g c = c.in_ok-keep.ensures.as_many c.requires.as_many
+pub told_with-requires-clause-as_many : goal.told_with-requires-clause-as_many
+told_with-requires-clause-as_many g c = c.in_ok-keep.ensures.as_many c.requires.as_many
 
 pub returns-in-Ok-clause-streamed : goal.returns-in-Ok-clause-streamed
 returns-in-Ok-clause-streamed g c = λ scope window known left progress last are unaccepted counted.

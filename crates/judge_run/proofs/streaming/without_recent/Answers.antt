@@ -9,8 +9,8 @@ use Rattle.judge_run.specs.Streams.{was_accepted}
 use Rattle.judge_run.proofs.StreamLaws.{going_same, held_on}
 use Rattle.judge_run.proofs.streaming.without_recent.Goals as goal
 
-pub told_past-requires-found : goal.told_past-requires-found
-told_past-requires-found g c =
+pub told_past-requires-clause-found : goal.told_past-requires-clause-found
+told_past-requires-clause-found g c =
     let calls = c.args.judged.warm.text.history in
     subst (λ (cs : List Call). IsFound cs c.in_ok-found.found) (c.in_ok-calls.ensures ∙ ap (in_order calls) c.deref.ensures.value) c.in_ok-found.ensures
 
