@@ -330,6 +330,13 @@ pub over_map : {S H : Type 0} (end : PieceEnd S H) (P Q : JudgedText S H → Typ
 over_map (Over told) P Q f is = f told is
 over_map (On stream) P Q f is = is
 
+-- at a stream that goes on, and at an answer
+pub at_on : {S H : Type 0} (end : PieceEnd S H) (stream : Stream S H) (P : Stream S H → Type 0) → end ≡ On stream → IfOn end P → P stream
+at_on {S} {H} end stream P is on = subst (λ (e : PieceEnd S H). IfOn e P) is on
+
+pub at_over : {S H : Type 0} (end : PieceEnd S H) (told : JudgedText S H) (P : JudgedText S H → Type 0) → end ≡ Over told → IfOver end P → P told
+at_over {S} {H} end told P is over = subst (λ (e : PieceEnd S H). IfOver e P) is over
+
 -- ---- what was found
 
 -- a certificate that was found is one

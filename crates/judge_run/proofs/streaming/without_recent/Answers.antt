@@ -12,7 +12,9 @@ use Rattle.judge_run.proofs.streaming.without_recent.Goals as goal
 pub told_past-requires-clause-found : goal.told_past-requires-clause-found
 told_past-requires-clause-found g c =
     let calls = c.args.judged.warm.text.history in
-    subst (λ (cs : List Call). IsFound cs c.in_ok-found.found) (c.in_ok-calls.ensures ∙ ap (in_order calls) c.deref.ensures.value) c.in_ok-found.ensures
+    let at = c.in_ok-found.ensures in
+    let found : IsFound c.in_ok-calls.calls c.in_ok-found.found = record { accepted = at.accepted; rejected = at.rejected; first = at.first; undecided = at.undecided } in
+    subst (λ (cs : List Call). IsFound cs c.in_ok-found.found) (c.in_ok-calls.ensures ∙ ap (in_order calls) c.deref.ensures.value) found
 
 pub returns-then-is_accepted-clause-on : goal.returns-then-is_accepted-clause-on
 returns-then-is_accepted-clause-on g c = λ scope known left progress last.
