@@ -1,6 +1,6 @@
 -- The last piece of a stream: with what it is judged, what is told of it, and what is kept of it.
-use Rattle.std.proofs.Common.{◌≡◌, ◌∙◌, ◌≤◌, ◌+◌, ◌-◌, ◌==◌, ℕ, suc, zero, max, Bool, true, false, cond, List, [], ◌∷◌, ◌++◌, Option, Some, None, IfSome, IsSomeAnd, length, take, slice_get, filter_map, unwrap_or, ap, arith, refl, sym, subst, append_assoc, append-nil, inl, inr}
-use Rattle.std.specs.Prelude.{◌↔◌, ◌≢◌}
+use Rattle.std.proofs.Common.{◌≡◌, ◌∙◌, ◌≤◌, ◌+◌, ◌-◌, ◌==◌, ℕ, max, Bool, true, false, cond, List, [], ◌∷◌, ◌++◌, Option, Some, None, IfSome, IsSomeAnd, length, take, unwrap_or, ap, arith, refl, sym, subst, append_assoc, append-nil, inl, inr}
+use Rattle.std.specs.Prelude.{◌↔◌}
 use Rattle.std.specs.Io.KnownBytes.{IsAtEnd, prepend_known}
 use Rattle.std.proofs.lemmas.List.{length-append}
 use Rattle.std.proofs.lemmas.List.Sums.{fold-append, sum_by-append}
@@ -17,7 +17,7 @@ use Rattle.history_text.specs.Reading.{IsAhead}
 use Rattle.history_text.specs.Pieces.{GoesOn, Progress, left_of}
 use Rattle.history_text.specs.Text.{Text, endless, no_text, read_by, text_by}
 use Rattle.history_window.specs.Standing.{Acceptable, StartFrom}
-use Rattle.history_window.specs.Streams.{ArePast, ArePuts, IsKept, IsKeptAfter, Piece, PiecesExclude, PiecesStand, all_in, calls_in, judged_in, judged_lines, last_end, later_end, lines_in, lines_of, puts_in}
+use Rattle.history_window.specs.Streams.{ArePast, ArePuts, IsKept, IsKeptAfter, PiecesExclude, PiecesStand, all_in, calls_in, judged_in, judged_lines, last_end, later_end, lines_in, lines_of, puts_in}
 use Rattle.judge_run.specs.declared.extent.Extent.{Extent}
 use Rattle.judge_run.specs.declared.forgotten.Forgotten.{Forgotten}
 use Rattle.judge_run.specs.declared.kind_counts.KindCounts.{KindCounts}

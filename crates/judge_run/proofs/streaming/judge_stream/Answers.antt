@@ -1,7 +1,5 @@
 -- Piece after piece, the stream goes on.
-use Rattle.std.proofs.Common.{◌≡◌, true, false, ap, refl, subst, sym}
-use Rattle.script_words.specs.Lines.{Ahead}
-use Rattle.history_text.specs.Pieces.{Progress}
+use Rattle.std.proofs.Common.{refl}
 use Rattle.history_text.specs.Text.{text_by}
 use Rattle.judge_run.proofs.StreamLaws.{at_on, at_over, going_first, nothing_ahead}
 use Rattle.judge_run.proofs.streaming.judge_stream.Goals as goal
