@@ -1,6 +1,6 @@
 -- The last piece of a stream: with what it is judged, what is told of it, and what is kept of it.
-use Rattle.std.proofs.Common.{◌≡◌, ◌∙◌, ◌≤◌, ◌+◌, ◌-◌, ◌==◌, ℕ, suc, zero, max, Bool, true, false, cond, List, [], ◌∷◌, ◌++◌, Option, Some, None, IfSome, IsSomeAnd, length, take, slice_get, filter_map, unwrap_or, ap, arith, refl, sym, subst, append_assoc, append-nil, inl, inr}
-use Rattle.std.specs.Prelude.{◌↔◌, ◌≢◌}
+use Rattle.std.proofs.Common.{◌≡◌, ◌∙◌, ◌≤◌, ◌+◌, ◌-◌, ◌==◌, ℕ, max, Bool, true, false, cond, List, [], ◌∷◌, ◌++◌, Option, Some, None, IfSome, IsSomeAnd, length, take, unwrap_or, ap, arith, refl, sym, subst, append_assoc, append-nil, inl, inr}
+use Rattle.std.specs.Prelude.{◌↔◌}
 use Rattle.std.specs.Io.KnownBytes.{IsAtEnd, prepend_known}
 use Rattle.std.proofs.lemmas.List.{length-append}
 use Rattle.std.proofs.lemmas.List.Sums.{fold-append, sum_by-append}
@@ -17,7 +17,7 @@ use Rattle.history_text.specs.Reading.{IsAhead}
 use Rattle.history_text.specs.Pieces.{GoesOn, Progress, left_of}
 use Rattle.history_text.specs.Text.{Text, endless, no_text, read_by, text_by}
 use Rattle.history_window.specs.Standing.{Acceptable, StartFrom}
-use Rattle.history_window.specs.Streams.{ArePast, ArePuts, IsKept, IsKeptAfter, Piece, PiecesExclude, PiecesStand, all_in, calls_in, judged_in, judged_lines, last_end, later_end, lines_in, lines_of, puts_in}
+use Rattle.history_window.specs.Streams.{ArePast, ArePuts, IsKept, IsKeptAfter, PiecesExclude, PiecesStand, all_in, calls_in, judged_in, judged_lines, last_end, later_end, lines_in, lines_of, puts_in}
 use Rattle.judge_run.specs.declared.extent.Extent.{Extent}
 use Rattle.judge_run.specs.declared.forgotten.Forgotten.{Forgotten}
 use Rattle.judge_run.specs.declared.kind_counts.KindCounts.{KindCounts}
@@ -330,6 +330,13 @@ pub over_map : {S H : Type 0} (end : PieceEnd S H) (P Q : JudgedText S H → Typ
 over_map (Over told) P Q f is = f told is
 over_map (On stream) P Q f is = is
 
+-- at a stream that goes on, and at an answer
+pub at_on : {S H : Type 0} (end : PieceEnd S H) (stream : Stream S H) (P : Stream S H → Type 0) → end ≡ On stream → IfOn end P → P stream
+at_on {S} {H} end stream P is on = subst (λ (e : PieceEnd S H). IfOn e P) is on
+
+pub at_over : {S H : Type 0} (end : PieceEnd S H) (told : JudgedText S H) (P : JudgedText S H → Type 0) → end ≡ Over told → IfOver end P → P told
+at_over {S} {H} end told P is over = subst (λ (e : PieceEnd S H). IfOver e P) is over
+
 -- ---- what was found
 
 -- a certificate that was found is one
@@ -367,7 +374,9 @@ goes_first scope (Some bytes) = refl
 
 -- nothing was read yet
 none_counted : (forgotten : Forgotten) → forgotten ≡ record { puts = 0; removals = 0; hits = 0; misses = 0; added = 0 } → AreCounted forgotten [] []
-none_counted forgotten none = λ kind. sym (ap (streams.forgotten_of kind) none ∙ none_of kind)
+none_counted forgotten none = λ kind.
+    let gone : streams.forgotten_of kind forgotten ≡ 0 = ap (streams.forgotten_of kind) none ∙ none_of kind in
+    omega (arith, gone)
 
 pub going_first : (scope : Scope) (window : ℕ) (known : Option (List ℕ)) (progress : Progress) (held : Text) (bound latest : ℕ) (forgotten : Forgotten) → progress ≡ record { reading = scope.reading; number = 1; skipped = 0; ahead = record { bytes = []; over = false } } → held ≡ no_text → bound ≡ 0 → latest ≡ 0 → forgotten ≡ record { puts = 0; removals = 0; hits = 0; misses = 0; added = 0 } → IsGoing scope window known (left_of progress known) progress held bound latest forgotten
 going_first scope window known progress held bound latest forgotten progress_is held_is bound_is latest_is none =

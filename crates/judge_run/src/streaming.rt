@@ -15,9 +15,9 @@ ghost use Rattle.judge_run.specs.Streams.{IfOn, IfOver, IsGoing, IsJudgedLast, I
 use crate::extent::Extent;
 use crate::forgetting::{calls_at, kept_of};
 use crate::forgotten::Forgotten;
-use crate::judging_text::counted;
 use crate::judged_piece::JudgedPiece;
 use crate::judged_text::JudgedText;
+use crate::judging_text::counted;
 use crate::kind_counts::{counts_of, grown};
 use crate::listing::faults_of;
 use crate::piece_end::PieceEnd;
@@ -314,9 +314,10 @@ fn told_with<S: BuildHasher + Copy + Drop>(
         text_by told.text.history told.text.lines.items told.text.callers
         ≡ text_by judged.warm.text.history judged.warm.text.lines.items judged.warm.text.callers) }
     ensures extent { IfOk result (λ told. told.extent ≡ record {
-        from_start = judged.warm.from_start;
-        skipped = judged.skipped;
-        forgotten = Some judged.forgotten }) }
+      from_start = judged.warm.from_start;
+      skipped = judged.skipped;
+      forgotten = Some judged.forgotten;
+    }) }
     ensures found { IfOk result (λ told. told.found ≡ found) }
     ensures verdict { IfOk result (λ told.
         IsVerdict told.text.history told.text.lines.items told.found told.faults) }

@@ -16,3 +16,6 @@ returns-in-Ok-judge_piece-clause-streamed g c = over_map c.in-Ok-judge_piece.end
 
 pub returns-in-Ok-judge_piece-clause-whole : goal.returns-in-Ok-judge_piece-clause-whole
 returns-in-Ok-judge_piece-clause-whole g c = over_map c.in-Ok-judge_piece.end _ _ (λ told is accepted. c.in-Ok.ensures.end (is accepted)) c.in-Ok-judge_piece.ensures.whole
+
+pub returns-in-Err-clause-fault : goal.returns-in-Err-clause-fault
+returns-in-Err-clause-fault g c = λ known going. c.in-Err.ensures.fault c.args.window known going

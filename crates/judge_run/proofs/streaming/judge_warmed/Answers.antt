@@ -1,6 +1,5 @@
 -- What comes of calls that were judged.
-use Rattle.std.proofs.Common.{◌∙◌, ap, sym}
-use Rattle.judge_run.specs.Streams.{was_accepted, was_decided}
+use Rattle.judge_run.specs.Streams.{was_accepted}
 use Rattle.judge_run.proofs.StreamLaws.{never_accepted, over_map}
 use Rattle.judge_run.proofs.streaming.judge_warmed.Goals as goal
 

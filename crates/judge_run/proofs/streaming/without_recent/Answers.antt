@@ -1,18 +1,18 @@
 -- What comes of calls that are not accepted.
-use Rattle.std.proofs.Common.{◌≡◌, ◌∙◌, ◌-◌, ℕ, ap, sym, subst, List}
-use Rattle.trace_file.specs.declared.call.Call.{Call}
-use Rattle.certificate_checker.specs.Orders.{in_order}
+use Rattle.std.proofs.Common.{◌∙◌, ℕ, ap, sym, subst}
 use Rattle.certificate_finder.specs.Finding.{IsFound}
 use Rattle.history_text.specs.Text.{text_by}
 use Rattle.history_window.specs.Streams.{ArePast}
 use Rattle.judge_run.specs.Streams.{was_accepted}
+use Rattle.judge_run.proofs.KeepLaws.{found_there}
 use Rattle.judge_run.proofs.StreamLaws.{going_same, held_on}
 use Rattle.judge_run.proofs.streaming.without_recent.Goals as goal
 
-pub told_past-requires-found : goal.told_past-requires-found
-told_past-requires-found g c =
-    let calls = c.args.judged.warm.text.history in
-    subst (λ (cs : List Call). IsFound cs c.in_ok-found.found) (c.in_ok-calls.ensures ∙ ap (in_order calls) c.deref.ensures.value) c.in_ok-found.ensures
+pub told_past-requires-clause-found : goal.told_past-requires-clause-found
+told_past-requires-clause-found g c =
+    let at = c.in_ok-found.ensures in
+    let found : IsFound c.in_ok-calls.calls c.in_ok-found.found = record { accepted = at.accepted; rejected = at.rejected; first = at.first; undecided = at.undecided } in
+    found_there c.args.judged.warm.text.history c.in_ok-calls.calls c.in_ok-old.old.items c.deref.result.now c.in_ok-found.found c.deref.ensures.value c.in_ok-calls.ensures found
 
 pub returns-then-is_accepted-clause-on : goal.returns-then-is_accepted-clause-on
 returns-then-is_accepted-clause-on g c = λ scope known left progress last.
