@@ -183,8 +183,8 @@ module _ (scope : Scope) (window : ℕ) (known left rest : Option (List ℕ)) (o
         read = read;
         place = place;
         call = found.0;
-        at = found.1.0;
+        at = found.1;
         line_is = line_is;
-        before = subst (λ b. found.0.start < b) bound_is found.1.1;
+        before = subst (λ b. found.0.start < b) bound_is found.2;
         first = subst (λ b. StartFrom b (take place judged.calls)) bound_is first;
       }
