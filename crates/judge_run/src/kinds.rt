@@ -79,8 +79,9 @@ pub(crate) fn tell_kinds(
         ≡ with_rows form (string_bytes text.old) (kind_rows extent.now history.now)) }
 {
     let own = own_of(extent, calls_of(history, CountedKind::Put));
-    let puts = told_of(CountedKind::Put, extent, own)
-        .saturating_sub(added_before(extent.forgotten));
+    let puts = told_of(CountedKind::Put, extent, own).saturating_sub(added_before(
+        extent.forgotten,
+    ));
     let removals = calls_of(history, CountedKind::Removal);
     let removals = told_of(CountedKind::Removal, extent, removals);
     let hits = calls_of(history, CountedKind::Hit);

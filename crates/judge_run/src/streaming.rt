@@ -13,7 +13,7 @@ ghost use Rattle.judge_run.specs.Scopes.{IsCounted};
 ghost use Rattle.judge_run.specs.Streams.{IfOn, IfOver, IsGoing, IsJudgedLast, IsStreamFault, IsStreamed, IsTaken, IsVerdict, was_accepted, was_decided};
 
 use crate::extent::Extent;
-use crate::forgetting::{calls_at, kept_of};
+use crate::forgetting::kept_of;
 use crate::forgotten::Forgotten;
 use crate::judged_piece::JudgedPiece;
 use crate::judged_text::JudgedText;
@@ -28,7 +28,7 @@ use crate::taking::take_piece;
 use crate::warmed_text::WarmedText;
 use crate::warming::warmed_if;
 use certificate_finder::{Found, find_with_hasher};
-use history_text::{ReadTextFault, TextHistory, TextReader};
+use history_text::{ReadTextFault, TextHistory, TextReader, history_at};
 use history_window::{past, pieces_exclude, pieces_stand};
 use std::alloc::{AllocError, Global};
 use std::hash::BuildHasher;
@@ -436,7 +436,7 @@ fn without_recent<S: BuildHasher + Copy + Drop>(
 {
     let bound = judged.latest.saturating_sub(window);
     let old = past(alloc, &judged.warm.text.history, bound)?;
-    let calls = calls_at(alloc, &judged.warm.text.history, &old)?;
+    let calls = history_at(alloc, &judged.warm.text.history, &old)?;
     let found = find_with_hasher(alloc, hash_builder, &calls)?;
     if is_accepted(&found) {
         return Ok(PieceEnd::On(unwarmed(judged, bound)));
