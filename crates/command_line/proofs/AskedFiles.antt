@@ -29,21 +29,21 @@ module _ (rows : List Row) where
 
 -- ---- judging
 
-module _ (rows : List Row) (least skew : ℕ) (share : Share) where
+module _ (rows : List Row) (least skew : ℕ) (share : Share) (window : Option ℕ) where
   -- with no files nothing is asked for
-  pub no_judging : None ≡ all_of (codes "FILE") rows → IsSome (judge_wanted_of rows least skew share) → ⊥
+  pub no_judging : None ≡ all_of (codes "FILE") rows → IsSome (judge_wanted_of rows least skew share window) → ⊥
   no_judging none some =
-      let bad : IsSome (option_and_then (judge_wanted_on rows least skew share) None) = subst (λ (files : Option (List Text)). IsSome (option_and_then (judge_wanted_on rows least skew share) files)) (sym none) some in absurd cc
+      let bad : IsSome (option_and_then (judge_wanted_on rows least skew share window) None) = subst (λ (files : Option (List Text)). IsSome (option_and_then (judge_wanted_on rows least skew share window) files)) (sym none) some in absurd cc
 
   -- what is asked is asked of the files that were found
-  pub of_files : (files : List Text) → Some files ≡ all_of (codes "FILE") rows → judge_wanted_of rows least skew share ≡ judge_wanted_on rows least skew share files
-  of_files files found = ap (option_and_then (judge_wanted_on rows least skew share)) (sym found)
+  pub of_files : (files : List Text) → Some files ≡ all_of (codes "FILE") rows → judge_wanted_of rows least skew share window ≡ judge_wanted_on rows least skew share window files
+  of_files files found = ap (option_and_then (judge_wanted_on rows least skew share window)) (sym found)
 
-  pub asks_judging : (files : List Text) (file : Text) (others : List Text) → files ≡ file ∷ others → can_follow rows files ≡ true → judge_wanted_on rows least skew share files ≡ Some (Judged (judging_of rows least skew share file others))
+  pub asks_judging : (files : List Text) (file : Text) (others : List Text) → files ≡ file ∷ others → can_follow rows files ≡ true → judge_wanted_on rows least skew share window files ≡ Some (Judged (judging_of rows least skew share window file others))
   asks_judging files file others are can =
       let follows : can_follow rows (file ∷ others) ≡ true = subst (λ (fs : List Text). can_follow rows fs ≡ true) are can in
-      ap (judge_wanted_on rows least skew share) are ∙ (rw follows refl)
+      ap (judge_wanted_on rows least skew share window) are ∙ (rw follows refl)
 
-  pub asks_nothing : (files : List Text) → can_follow rows files ≡ false → judge_wanted_on rows least skew share files ≡ None
+  pub asks_nothing : (files : List Text) → can_follow rows files ≡ false → judge_wanted_on rows least skew share window files ≡ None
   asks_nothing [] not_all = refl
   asks_nothing (file ∷ others) not_all = rw not_all refl
