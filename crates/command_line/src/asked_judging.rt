@@ -136,8 +136,8 @@ fn inputs_among(files: &[&str]) -> usize
     ensures { result ≡ count_by is_input (map (λ f. f.now) files.now) }
 {
     let mut count = 0;
-    for at in 0..files.len() {
-        if is_input(files[at]) {
+    for file in files {
+        if is_input(file) {
             count += 1;
         }
     }
