@@ -95,6 +95,10 @@ warm_rule = record (new_rule (codes "warm")) { long = Some (codes "warm"); actio
 abbrev pub keys_rule : Rule
 keys_rule = record (new_rule (codes "keys")) { long = Some (codes "keys"); value_names = 1 }
 
+-- how far back a call may start, if the calls are judged as they come
+abbrev pub window_rule : Rule
+window_rule = record (new_rule (codes "window")) { long = Some (codes "window"); value_names = 1 }
+
 -- whether bad lines are passed over
 abbrev pub skip_rule : Rule
 skip_rule = record (new_rule (codes "skip-bad")) { long = Some (codes "skip-bad"); action = Some SetTrue }
@@ -119,11 +123,11 @@ with_listing app = with_rule (with_rule (with_rule app all_rule) out_rule) junit
 abbrev pub with_scope : App → App
 with_scope app = with_rule (with_rule (with_rule app least_rule) skew_rule) warm_rule
 
--- a command with an option for the keys whose calls are judged, and a flag for bad lines
+-- a command with options for the keys whose calls are judged and for a window, and a flag for bad lines
 abbrev pub with_reading : App → App
-with_reading app = with_rule (with_rule app keys_rule) skip_rule
+with_reading app = with_rule (with_rule (with_rule app keys_rule) skip_rule) window_rule
 
--- judge FILE.., with five flags and six options
+-- judge FILE.., with five flags and seven options
 abbrev pub judge_command : App
 judge_command = with_reading (with_scope (with_listing (with_history (with_rule (new_app (codes "judge")) files_rule))))
 
@@ -170,7 +174,8 @@ program = with_loads (with_judging scripts_program)
 -- a history that is to be judged: its file, and those of further ones; whether it is said why it is rejected, whether all its faults are listed, and whether that
 -- is told as a JSON object; the files that a picture of why it is rejected is drawn to, that it is written to as a trace, and that what
 -- came of it is written to as JUnit has it, if they are named; how many calls it has to have if it is accepted; by how much its stamps may differ from the truth;
--- whether values may have been there from the start; which keys' calls are judged; and whether bad lines are passed over
+-- whether values may have been there from the start; which keys' calls are judged; whether bad lines are passed over; and the window of
+-- a text that is judged as its calls come, if it is
 pub record Judging : Type 0 where
   pub file : Text
   pub others : List Text
@@ -185,6 +190,7 @@ pub record Judging : Type 0 where
   pub warm : Bool
   pub share : Share
   pub skip_bad : Bool
+  pub window : Option ℕ
 
 -- that a script is answered; that the trace in a file of this name is judged, with why it is rejected if the first flag is on, told as
 -- a JSON object if the second is, and drawn to this file if one is named; that a history is judged; that the trace in a file of this name is written as text, only the calls of this
@@ -218,6 +224,7 @@ wanted_of (Judge request) = Judged (record {
   warm = request.scope.warm;
   share = request.scope.reading.share;
   skip_bad = request.scope.reading.skip_bad;
+  window = request.scope.window;
 })
 wanted_of (Show request) = Shown request.file (option_map string_bytes request.key)
 wanted_of (Run load) = Loaded (numbers_of load) load.json load.device load.trace
@@ -269,6 +276,14 @@ share_given (Some text) = share_in text
 abbrev pub share_found : List Row → Option Share
 share_found rows = share_given (first_of (codes "keys") rows)
 
+-- the window that is asked for, if one is
+abbrev pub window_given : Option Text → Option (Option ℕ)
+window_given None = Some None
+window_given (Some text) = option_map (λ window. Some window) (number_to 9223372036854775807 text)
+
+abbrev pub window_found : List Row → Option (Option ℕ)
+window_found rows = window_given (first_of (codes "window") rows)
+
 -- a file name that means the standard input
 abbrev pub is_input : Text → Bool
 is_input file = bytes_eq file (codes "-")
@@ -281,9 +296,10 @@ has_output rows = is_some (first_of (codes "trace") rows) || (is_some (first_of 
 abbrev pub can_follow : List Row → List Text → Bool
 can_follow rows files = nat_le (count_by is_input files) 1 && not (nat_lt 1 (length files) && has_output rows)
 
--- the judging that was found of the history in a file, and of those in others, of which an accepted one has to have so many calls, with stamps that may differ by so much, of a share of keys
-abbrev pub judging_of : List Row → ℕ → ℕ → Share → Text → List Text → Judging
-judging_of rows least skew share file others = record {
+-- the judging that was found of the history in a file, and of those in others, of which an accepted one has to have so many calls, with stamps
+-- that may differ by so much, of a share of keys, with a window if there is one
+abbrev pub judging_of : List Row → ℕ → ℕ → Share → Option ℕ → Text → List Text → Judging
+judging_of rows least skew share window file others = record {
   file = file;
   others = others;
   explain = is_on (codes "explain") rows;
@@ -297,24 +313,29 @@ judging_of rows least skew share file others = record {
   warm = is_on (codes "warm") rows;
   share = share;
   skip_bad = is_on (codes "skip-bad") rows;
+  window = window;
 }
 
 -- what is asked of these files
-abbrev pub judge_wanted_on : List Row → ℕ → ℕ → Share → List Text → Option Wanted
-judge_wanted_on rows least skew share [] = None
-judge_wanted_on rows least skew share (file ∷ others) = if can_follow rows (file ∷ others) then Some (Judged (judging_of rows least skew share file others)) else None
+abbrev pub judge_wanted_on : List Row → ℕ → ℕ → Share → Option ℕ → List Text → Option Wanted
+judge_wanted_on rows least skew share window [] = None
+judge_wanted_on rows least skew share window (file ∷ others) = if can_follow rows (file ∷ others) then Some (Judged (judging_of rows least skew share window file others)) else None
 
 -- what is asked of the files that were found
-abbrev pub judge_wanted_of : List Row → ℕ → ℕ → Share → Option Wanted
-judge_wanted_of rows least skew share = option_and_then (judge_wanted_on rows least skew share) (all_of (codes "FILE") rows)
+abbrev pub judge_wanted_of : List Row → ℕ → ℕ → Share → Option ℕ → Option Wanted
+judge_wanted_of rows least skew share window = option_and_then (judge_wanted_on rows least skew share window) (all_of (codes "FILE") rows)
+
+-- the same, by the window that was found
+abbrev pub judge_wanted_at : List Row → ℕ → ℕ → Share → Option Wanted
+judge_wanted_at rows least skew share = option_and_then (judge_wanted_of rows least skew share) (window_found rows)
 
 -- the same, by the share of keys that was found
 abbrev pub judge_wanted_in : List Row → ℕ → ℕ → Option Wanted
-judge_wanted_in rows least skew = option_and_then (judge_wanted_of rows least skew) (share_found rows)
+judge_wanted_in rows least skew = option_and_then (judge_wanted_at rows least skew) (share_found rows)
 
--- the same, unless a trace is to be written of calls whose stamps may differ, or of puts that were added
+-- the same, unless a trace is to be written of calls whose stamps may differ, of puts that were added, or of calls that are forgotten as others come
 abbrev pub judge_wanted_by : List Row → ℕ → ℕ → Option Wanted
-judge_wanted_by rows least skew = if is_some (first_of (codes "trace") rows) && (nat_lt 0 skew || is_on (codes "warm") rows) then None else judge_wanted_in rows least skew
+judge_wanted_by rows least skew = if is_some (first_of (codes "trace") rows) && (nat_lt 0 skew || (is_on (codes "warm") rows || is_some (first_of (codes "window") rows))) then None else judge_wanted_in rows least skew
 
 -- the judging that was found
 abbrev pub judge_wanted_with : List Row → ℕ → Option Wanted

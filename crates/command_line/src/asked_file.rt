@@ -1,7 +1,7 @@
 // What was found for the arguments of a subcommand that reads a file.
 ghost use Rattle.std.specs.Prelude.{◌≡◌, ◌||◌, nat_lt, IfOk, IfErr, IsSome, Some, codes, is_some, option_map, string_bytes};
 ghost use Rattle.clap.specs.Words.{first_of, found_of, rows_of};
-ghost use Rattle.command_line.specs.CommandLine.{check_wanted, is_on, judge_wanted, judge_wanted_by, judge_wanted_in, judge_wanted_with, number_found_to, number_to, share_found, share_in, show_wanted, wanted_of, IsUsage};
+ghost use Rattle.command_line.specs.CommandLine.{check_wanted, is_on, judge_wanted, judge_wanted_at, judge_wanted_by, judge_wanted_in, judge_wanted_with, number_found_to, number_to, share_found, share_in, show_wanted, wanted_of, window_found, IsUsage};
 
 use crate::asked_judging::judging_line;
 use crate::line::Line;
@@ -16,7 +16,7 @@ use trace_file::FileName;
 /// The most calls of a history.
 const MOST_CALLS: u64 = 268435456;
 
-/// The most by which a stamp may differ from the truth: the greatest stamp of a text.
+/// The most by which a stamp may differ from the truth, and the longest window: the greatest stamp of a text.
 const MOST_SKEW: u64 = 9223372036854775807;
 
 /// The most shares of keys.
@@ -143,6 +143,19 @@ fn share_of<'a>(found: &ArgMatches<'a>) -> Option<Share>
     }
 }
 
+/// The window that is asked for, if one is; none if what is given is no number.
+fn window_of<'a>(found: &ArgMatches<'a>) -> Option<Option<u64>>
+    ensures { result ≡ window_found (rows_of (found_of found.now)) }
+{
+    match found.get_str("window") {
+        Some(text) => match number_to(text, MOST_SKEW) {
+            Some(window) => Some(Some(window)),
+            None => None,
+        },
+        None => Some(None),
+    }
+}
+
 /// What `judge` asks for.
 pub(crate) fn judge_line<'a>(alloc: Global, found: &ArgMatches<'a>) -> Result<Line, LineFault>
     ensures named { IfOk result (λ line. judge_wanted (rows_of (found_of found.now)) ≡ Some (wanted_of line)) }
@@ -181,7 +194,7 @@ fn judge_line_with<'a>(
 }
 
 /// The same, if each stamp may differ from the truth by so much. Then no trace is written, since its calls would be wider than those
-/// that were recorded; nor is one with puts of what was there from the start.
+/// that were recorded; nor is one with puts of what was there from the start, or without the calls that were forgotten as others came.
 fn judge_line_by<'a>(
     alloc: Global,
     found: &ArgMatches<'a>,
@@ -194,8 +207,8 @@ fn judge_line_by<'a>(
     ensures taken { IsSome (judge_wanted_by (rows_of (found_of found.now)) at_least skew)
         → IfErr result (λ fault. fault ≡ LineFault.OutOfMemory) }
 {
-    if has_trace(found) && is_changed(found, skew) {
-        return Err(untraced(alloc, skew));
+    if is_given(found, "trace") && is_changed(found, skew) {
+        return Err(untraced(alloc, found, skew));
     }
     match judge_line_in(alloc, found, at_least, skew) {
         Ok(line) => Ok(line),
@@ -217,7 +230,7 @@ fn judge_line_in<'a>(
         → IfErr result (λ fault. fault ≡ LineFault.OutOfMemory) }
 {
     match share_of(found) {
-        Some(share) => match judging_line(alloc, found, at_least, skew, share) {
+        Some(share) => match judge_line_at(alloc, found, at_least, skew, share) {
             Ok(line) => Ok(line),
             Err(fault) => Err(fault),
         },
@@ -225,30 +238,56 @@ fn judge_line_in<'a>(
     }
 }
 
-/// Whether what is judged is more than the calls as they were recorded: their stamps may differ from the truth by so much, or values may
-/// have been there from the start.
-fn is_changed<'a>(found: &ArgMatches<'a>, skew: u64) -> bool
-    ensures { result ≡ (nat_lt 0 skew || is_on (codes "warm") (rows_of (found_of found.now))) }
+/// The same, if the keys of this share are judged.
+fn judge_line_at<'a>(
+    alloc: Global,
+    found: &ArgMatches<'a>,
+    at_least: u64,
+    skew: u64,
+    share: Share,
+) -> Result<Line, LineFault>
+    ensures named { IfOk result (λ line.
+        judge_wanted_at (rows_of (found_of found.now)) at_least skew share ≡ Some (wanted_of line)) }
+    ensures refused { IfErr result (λ fault. IsUsage fault) }
+    ensures taken { IsSome (judge_wanted_at (rows_of (found_of found.now)) at_least skew share)
+        → IfErr result (λ fault. fault ≡ LineFault.OutOfMemory) }
 {
-    skew > 0 || is_on(found, "warm")
+    match window_of(found) {
+        Some(window) => match judging_line(alloc, found, at_least, skew, share, window) {
+            Ok(line) => Ok(line),
+            Err(fault) => Err(fault),
+        },
+        None => Err(no_number_to(alloc, "window", MOST_SKEW, given(found, "window"))),
+    }
+}
+
+/// Whether what is judged is not all calls as they were recorded: their stamps may differ from the truth by so much, values may
+/// have been there from the start, or calls are forgotten as others come.
+fn is_changed<'a>(found: &ArgMatches<'a>, skew: u64) -> bool
+    ensures { result ≡ (nat_lt 0 skew || (is_on (codes "warm") (rows_of (found_of found.now))
+        || is_some (first_of (codes "window") (rows_of (found_of found.now))))) }
+{
+    skew > 0 || (is_on(found, "warm") || is_given(found, "window"))
 }
 
 /// What is reported if a trace is to be written of what is judged then.
-fn untraced(alloc: Global, skew: u64) -> LineFault
+fn untraced<'a>(alloc: Global, found: &ArgMatches<'a>, skew: u64) -> LineFault
     ensures { IsUsage result }
 {
     if skew > 0 {
         not_with_trace(alloc, "skew", "calls with other times")
+    } else if is_given(found, "window") {
+        not_with_trace(alloc, "window", "only some of the calls")
     } else {
         not_with_trace(alloc, "warm", "puts that were not recorded")
     }
 }
 
-/// Whether a file for the trace is named.
-fn has_trace<'a>(found: &ArgMatches<'a>) -> bool
-    ensures { result ≡ is_some (first_of (codes "trace") (rows_of (found_of found.now))) }
+/// Whether an option is given.
+pub(crate) fn is_given<'a>(found: &ArgMatches<'a>, option: &str) -> bool
+    ensures { result ≡ is_some (first_of option.now (rows_of (found_of found.now))) }
 {
-    match found.get_str("trace") {
+    match found.get_str(option) {
         Some(_) => true,
         None => false,
     }

@@ -3,7 +3,7 @@ ghost use Rattle.std.specs.Prelude.{◌≡◌, ◌||◌, IfOk, IfErr, IsSome, So
 ghost use Rattle.clap.specs.Words.{first_of, found_of, rows_of};
 ghost use Rattle.command_line.specs.CommandLine.{Judged, has_output, is_input, judge_wanted_of, judge_wanted_on, judging_of, wanted_of, IsUsage};
 
-use crate::asked_file::{file_found, is_on};
+use crate::asked_file::{file_found, is_given, is_on};
 use crate::line::Line;
 use crate::line_fault::LineFault;
 use crate::telling::{input_twice, no_file, not_with_files};
@@ -13,25 +13,26 @@ use judge_run::{Detail, JudgeRequest, Scope};
 use std::alloc::{AllocError, Global};
 use trace_file::FileName;
 
-/// What `judge` asks for, if an accepted history has to have so many calls, each stamp may differ from the truth by so much, and the keys of
-/// this share are judged.
+/// What `judge` asks for, if an accepted history has to have so many calls, each stamp may differ from the truth by so much, the keys of
+/// this share are judged, and calls are judged as they come if there is a window.
 pub(crate) fn judging_line<'a>(
     alloc: Global,
     found: &ArgMatches<'a>,
     at_least: u64,
     skew: u64,
     share: Share,
+    window: Option<u64>,
 ) -> Result<Line, LineFault>
     ensures named { IfOk result (λ line.
-        judge_wanted_of (rows_of (found_of found.now)) at_least skew share ≡ Some (wanted_of line)) }
+        judge_wanted_of (rows_of (found_of found.now)) at_least skew share window ≡ Some (wanted_of line)) }
     ensures refused { IfErr result (λ fault. IsUsage fault) }
-    ensures taken { IsSome (judge_wanted_of (rows_of (found_of found.now)) at_least skew share)
+    ensures taken { IsSome (judge_wanted_of (rows_of (found_of found.now)) at_least skew share window)
         → IfErr result (λ fault. fault ≡ LineFault.OutOfMemory) }
 {
     let Some(files) = found.get_strs("FILE") else {
         return Err(no_file(alloc, "judge"));
     };
-    match judging_on(alloc, found, at_least, skew, share, files) {
+    match judging_on(alloc, found, at_least, skew, share, window, files) {
         Ok(line) => Ok(line),
         Err(fault) => Err(fault),
     }
@@ -44,14 +45,15 @@ fn judging_on<'a>(
     at_least: u64,
     skew: u64,
     share: Share,
+    window: Option<u64>,
     files: &[&str],
 ) -> Result<Line, LineFault>
     ensures named { IfOk result (λ line.
-        judge_wanted_on (rows_of (found_of found.now)) at_least skew share (map (λ f. f.now) files.now)
+        judge_wanted_on (rows_of (found_of found.now)) at_least skew share window (map (λ f. f.now) files.now)
         ≡ Some (wanted_of line)) }
     ensures refused { IfErr result (λ fault. IsUsage fault) }
     ensures taken { IsSome
-        (judge_wanted_on (rows_of (found_of found.now)) at_least skew share (map (λ f. f.now) files.now))
+        (judge_wanted_on (rows_of (found_of found.now)) at_least skew share window (map (λ f. f.now) files.now))
         → IfErr result (λ fault. fault ≡ LineFault.OutOfMemory) }
 {
     let [file, others @ ..] = files else {
@@ -65,7 +67,7 @@ fn judging_on<'a>(
     }
     let file = FileName::new(alloc, file)?;
     let others = file_names(alloc, others)?;
-    let request = judge_request(alloc, found, at_least, skew, share, file, others)?;
+    let request = judge_request(alloc, found, at_least, skew, share, window, file, others)?;
     Ok(Line::Judge(request))
 }
 
@@ -76,11 +78,12 @@ fn judge_request<'a>(
     at_least: u64,
     skew: u64,
     share: Share,
+    window: Option<u64>,
     file: FileName,
     others: Vec<FileName>,
 ) -> Result<JudgeRequest, AllocError>
     ensures { IfOk result (λ request. wanted_of (Line.Judge request)
-        ≡ Judged (judging_of (rows_of (found_of found.now)) at_least skew share file others.items)) }
+        ≡ Judged (judging_of (rows_of (found_of found.now)) at_least skew share window file others.items)) }
 {
     let explain = is_on(found, "explain");
     let all = is_on(found, "all");
@@ -104,6 +107,7 @@ fn judge_request<'a>(
             skew,
             warm,
             reading,
+            window,
         },
     })
 }
@@ -132,22 +136,12 @@ fn inputs_among(files: &[&str]) -> usize
     ensures { result ≡ count_by is_input (map (λ f. f.now) files.now) }
 {
     let mut count = 0;
-    for at in 0..files.len() {
-        if is_input(files[at]) {
+    for file in files {
+        if is_input(file) {
             count += 1;
         }
     }
     count
-}
-
-/// Whether an option is given.
-fn is_given<'a>(found: &ArgMatches<'a>, option: &str) -> bool
-    ensures { result ≡ is_some (first_of option.now (rows_of (found_of found.now))) }
-{
-    match found.get_str(option) {
-        Some(_) => true,
-        None => false,
-    }
 }
 
 /// Whether a file is to be written beside the verdict.

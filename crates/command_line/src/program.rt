@@ -1,7 +1,7 @@
 // The program's command line, as `clap` reads it.
 ghost use Rattle.std.specs.Prelude.{◌≡◌, IfOk, false};
 ghost use Rattle.clap.specs.Words.{app_of, new_app, rule_of};
-ghost use Rattle.command_line.specs.CommandLine.{all_rule, check_command, device_rule, explain_rule, file_rule, files_rule, json_rule, judge_command, junit_rule, key_rule, keys_rule, least_rule, option_rule, out_rule, picture_rule, program, run_command, script_command, scripts_program, serve_command, show_command, size_rule, skew_rule, skip_rule, trace_rule, warm_rule, with_history, with_judging, with_listing, with_loads, with_reading, with_scope, zipf_rule};
+ghost use Rattle.command_line.specs.CommandLine.{all_rule, check_command, device_rule, explain_rule, file_rule, files_rule, json_rule, judge_command, junit_rule, key_rule, keys_rule, least_rule, option_rule, out_rule, picture_rule, program, run_command, script_command, scripts_program, serve_command, show_command, size_rule, skew_rule, skip_rule, trace_rule, warm_rule, window_rule, with_history, with_judging, with_listing, with_loads, with_reading, with_scope, zipf_rule};
 
 use crate::help;
 use crate::help::Help;
@@ -109,12 +109,13 @@ fn with_scope<'a>(alloc: Global, command: Command<'a>) -> Result<Command<'a>, Al
     widened.arg(warm(alloc))
 }
 
-/// A command that judges the calls of some keys, and passes over bad lines if that is wanted.
+/// A command that judges the calls of some keys, passes over bad lines if that is wanted, and judges calls as they come if there is a window.
 fn with_reading<'a>(alloc: Global, command: Command<'a>) -> Result<Command<'a>, AllocError>
     ensures { IfOk result (λ c. app_of c ≡ with_reading (app_of command.entry)) }
 {
     let shared = command.arg(keys(alloc))?;
-    shared.arg(skip_bad(alloc))
+    let skipping = shared.arg(skip_bad(alloc))?;
+    skipping.arg(window(alloc))
 }
 
 /// A command that lists all faults if that is wanted, and writes a trace and a JUnit file.
@@ -286,6 +287,19 @@ fn skip_bad<'a>(alloc: Global) -> Arg<'a>
         .long("skip-bad")
         .action(ArgAction::SetTrue)
         .help("Pass over lines that are not calls, and count them")
+}
+
+/// How far back a call may start, if the calls are judged as they come.
+fn window<'a>(alloc: Global) -> Arg<'a>
+    ensures rule { rule_of result ≡ window_rule }
+    ensures local { result.global ≡ false }
+{
+    Arg::new(alloc, "window")
+        .long("window")
+        .value_name("NUMBER")
+        .help(
+            "Judge the calls as they come, and forget what can't matter any more. A\ncall may start so much before the last END that was read before, in the\nunit of the input's times, 0 to 9223372036854775807.",
+        )
 }
 
 /// The key whose calls alone are written.

@@ -3,4 +3,5 @@ mod finder;
 mod forgetting;
 mod pictures;
 mod skew;
+mod streams;
 mod texts;

@@ -346,7 +346,7 @@ fn examples_by_hand_are_forgotten(rt: HostRuntime) -> Result<(), Fail> {
 }
 
 /// A number below a limit, from a seed.
-fn draw(seed: &mut u64, below: u64) -> u64
+pub(super) fn draw(seed: &mut u64, below: u64) -> u64
     requires { 0 < below }
     ensures { result < below }
 {

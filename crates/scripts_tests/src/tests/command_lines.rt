@@ -151,13 +151,77 @@ fn what_is_asked(line: &Result<Line, LineFault>) -> Asked {
     }
 }
 
-/// Whether words ask for the judging of one file of standard input, of this share of keys, with bad lines passed over if that is wanted.
-fn read_so<'a>(alloc: Global, words: &'a [&'a str], share: Option<Share>, skip_bad: bool) -> bool {
-    match parse_line(alloc, words) {
+/// Words of `judge` for standard input, and what of its calls is judged: one share of so many, whether bad lines are passed over, and
+/// the window.
+struct Reads {
+    words: &'static [&'static str],
+    part: u32,
+    of: u32,
+    skip_bad: bool,
+    window: Option<u64>,
+}
+
+const READS: [Reads; 5] = [
+    Reads {
+        words: &["kangaroo", "judge", "-"],
+        part: 0,
+        of: 1,
+        skip_bad: false,
+        window: None,
+    },
+    Reads {
+        words: &["kangaroo", "judge", "--skip-bad", "-"],
+        part: 0,
+        of: 1,
+        skip_bad: true,
+        window: None,
+    },
+    Reads {
+        words: &["kangaroo", "judge", "--keys", "2/8", "-"],
+        part: 2,
+        of: 8,
+        skip_bad: false,
+        window: None,
+    },
+    Reads {
+        words: &["kangaroo", "judge", "--window=0", "-"],
+        part: 0,
+        of: 1,
+        skip_bad: false,
+        window: Some(0),
+    },
+    Reads {
+        words: &["kangaroo", "judge", "--window", "9223372036854775807", "-"],
+        part: 0,
+        of: 1,
+        skip_bad: false,
+        window: Some(9223372036854775807),
+    },
+];
+
+/// Words of `judge` that are refused: shares that are none, windows that are no numbers, and a trace of calls that are forgotten.
+const UNREAD: [&[&str]; 11] = [
+    &["kangaroo", "judge", "--keys=8/8", "-"],
+    &["kangaroo", "judge", "--keys=2", "-"],
+    &["kangaroo", "judge", "--keys=/8", "-"],
+    &["kangaroo", "judge", "--keys=2/", "-"],
+    &["kangaroo", "judge", "--keys=1/4294967296", "-"],
+    &["kangaroo", "judge", "--keys=a/8", "-"],
+    &["kangaroo", "judge", "--keys=1/2/3", "-"],
+    &["kangaroo", "judge", "--window=9223372036854775808", "-"],
+    &["kangaroo", "judge", "--window=1s", "-"],
+    &["kangaroo", "judge", "--window=1", "--trace=b.trace", "-"],
+    &["kangaroo", "judge", "--window=0", "--trace=b.trace", "-"],
+];
+
+/// Whether a line asks for the judging of one file, read so.
+fn is_read_so(line: &Result<Line, LineFault>, reads: &Reads) -> bool {
+    match line {
         Ok(Line::Judge(request)) => {
-            let reading = request.scope.reading;
-            Some(reading.share) == share
-                && reading.skip_bad == skip_bad
+            let scope = request.scope;
+            Some(scope.reading.share) == Share::new(reads.part, reads.of)
+                && scope.reading.skip_bad == reads.skip_bad
+                && scope.window == reads.window
                 && request.others.is_empty()
         }
         _ => false,
@@ -165,35 +229,36 @@ fn read_so<'a>(alloc: Global, words: &'a [&'a str], share: Option<Share>, skip_b
 }
 
 #[test]
-fn shares_and_bad_lines_are_asked_for(rt: HostRuntime) {
-    let alloc = rt.alloc();
-    let all = Some(Share::ALL);
-    assert!(rt; read_so(alloc, &["kangaroo", "judge", "-"], all, false));
-    assert!(rt; read_so(alloc, &["kangaroo", "judge", "--skip-bad", "-"], all, true));
-    assert!(rt;
-        read_so(
-            alloc,
-            &["kangaroo", "judge", "--keys", "2/8", "-"],
-            Share::new(2, 8),
-            false
-        )
-    );
-    for word in [
-        "--keys=8/8",
-        "--keys=2",
-        "--keys=/8",
-        "--keys=2/",
-        "--keys=1/4294967296",
-        "--keys=a/8",
-        "--keys=1/2/3",
-    ] {
-        assert!(rt; ask_for(alloc, &["kangaroo", "judge", word, "-"], Asked::Usage));
+fn shares_bad_lines_and_windows_are_asked_for(rt: HostRuntime) {
+    for reads in &READS {
+        let line = parse_line(rt.alloc(), reads.words);
+        assert!(rt; is_read_so(&line, reads));
+    }
+    for words in UNREAD {
+        assert!(rt; ask_for(rt.alloc(), words, Asked::Usage));
     }
 }
 
-/// Whether words ask for the judging of these two files.
-fn follow<'a>(alloc: Global, words: &'a [&'a str], first: &str, second: &str) -> bool {
-    match parse_line(alloc, words) {
+/// Words of `judge`, and the two files that they name.
+type Follows = (&'static [&'static str], &'static str, &'static str);
+
+const FOLLOWS: [Follows; 2] = [
+    (&["kangaroo", "judge", "a.txt", "-"], "a.txt", "-"),
+    (&["kangaroo", "judge", "b", "--json", "a"], "b", "a"),
+];
+
+/// Words with several files that are refused.
+const UNFOLLOWED: [&[&str]; 5] = [
+    &["kangaroo", "judge", "-", "-"],
+    &["kangaroo", "judge", "--trace=t", "a", "b"],
+    &["kangaroo", "judge", "--picture=p", "a", "b"],
+    &["kangaroo", "judge", "--junit=j", "a", "b"],
+    &["kangaroo", "check", "a.trace", "b.trace"],
+];
+
+/// Whether a line asks for the judging of these two files.
+fn is_of_files(line: &Result<Line, LineFault>, first: &str, second: &str) -> bool {
+    match line {
         Ok(Line::Judge(request)) => match request.others.as_slice() {
             [other] => request.file.as_str() == first && other.as_str() == second,
             _ => false,
@@ -204,20 +269,13 @@ fn follow<'a>(alloc: Global, words: &'a [&'a str], first: &str, second: &str) ->
 
 #[test]
 fn several_files_are_asked_for(rt: HostRuntime) {
-    let alloc = rt.alloc();
-    assert!(rt; follow(alloc, &["kangaroo", "judge", "a.txt", "-"], "a.txt", "-"));
-    assert!(rt; follow(alloc, &["kangaroo", "judge", "b", "--json", "a"], "b", "a"));
-    assert!(rt; ask_for(alloc, &["kangaroo", "judge", "-", "-"], Asked::Usage));
-    for word in ["--trace=t", "--picture=p", "--junit=j"] {
-        assert!(rt; ask_for(alloc, &["kangaroo", "judge", word, "a", "b"], Asked::Usage));
+    for (words, first, second) in FOLLOWS {
+        let line = parse_line(rt.alloc(), words);
+        assert!(rt; is_of_files(&line, first, second));
     }
-    assert!(rt;
-        ask_for(
-            alloc,
-            &["kangaroo", "check", "a.trace", "b.trace"],
-            Asked::Usage
-        )
-    );
+    for words in UNFOLLOWED {
+        assert!(rt; ask_for(rt.alloc(), words, Asked::Usage));
+    }
 }
 
 /// Whether these words ask for this.

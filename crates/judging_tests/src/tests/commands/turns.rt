@@ -1,6 +1,6 @@
 // Several files that are judged in turn.
 use judge_run::{Detail, JudgeRequest, Scope, judge_with};
-use std::alloc::AllocError;
+use std::alloc::{AllocError, Global};
 use std::fs;
 use std::random::RandomSource;
 use std::rt::Files;
@@ -19,7 +19,8 @@ const FILES: [(&str, &[u8]); 3] = [
 
 /// Files that are judged in turn, as JSON if the flag is on, and the status and what is written then.
 struct Turn {
-    files: &'static [&'static str],
+    first: &'static str,
+    others: &'static [&'static str],
     json: bool,
     status: u8,
     told: &'static str,
@@ -27,55 +28,65 @@ struct Turn {
 
 const TURNS: [Turn; 6] = [
     Turn {
-        files: &["right.txt"],
+        first: "right.txt",
+        others: &[],
         json: false,
         status: 0,
         told: "accepted 2 calls\n",
     },
     Turn {
-        files: &["right.txt", "-"],
+        first: "right.txt",
+        others: &["-"],
         json: false,
         status: 0,
         told: "right.txt:\naccepted 2 calls\n-:\naccepted 1 calls\n",
     },
     Turn {
-        files: &["stale.txt", "right.txt"],
+        first: "stale.txt",
+        others: &["right.txt"],
         json: false,
         status: 1,
         told: "stale.txt:\nrejected hit key k lines 1 2 3\nright.txt:\naccepted 2 calls\n",
     },
     Turn {
-        files: &["right.txt", "bad.txt", "stale.txt"],
+        first: "right.txt",
+        others: &["bad.txt", "stale.txt"],
         json: false,
         status: 2,
         told: "right.txt:\naccepted 2 calls\nbad.txt:\nbad line 2: a line has five to seven words of printable ASCII, separated by single spaces: CALLER START END put|hit|miss|remove KEY [VALUE [TIME]]\nstale.txt:\nrejected hit key k lines 1 2 3\n",
     },
     Turn {
-        files: &["absent.txt", "bad.txt"],
+        first: "absent.txt",
+        others: &["bad.txt"],
         json: false,
         status: 3,
         told: "absent.txt:\nbad.txt:\nbad line 2: a line has five to seven words of printable ASCII, separated by single spaces: CALLER START END put|hit|miss|remove KEY [VALUE [TIME]]\n",
     },
     Turn {
-        files: &["right.txt", "-"],
+        first: "right.txt",
+        others: &["-"],
         json: true,
         status: 0,
         told: "{\"calls\":2,\"puts\":1,\"removals\":0,\"hits\":1,\"misses\":0,\"verdict\":\"accepted\"}\n{\"calls\":1,\"puts\":1,\"removals\":0,\"hits\":0,\"misses\":0,\"verdict\":\"accepted\"}\n",
     },
 ];
 
-/// Whether files are judged in turn as they should be.
-fn is_right<R: AllocGlobal + Files + RandomSource>(
-    rt: &R,
-    turn: &Turn,
-) -> Result<bool, AllocError> {
-    let alloc = rt.alloc();
-    let mut others = Vec::new(alloc);
-    for file in &turn.files[1..] {
-        others.push(FileName::new(alloc, file)?)?;
+/// The names of files.
+fn names_of(alloc: Global, files: &[&str]) -> Result<Vec<FileName>, AllocError> {
+    let mut names = Vec::new(alloc);
+    for file in files {
+        let name = FileName::new(alloc, file)?;
+        names.push(name)?;
     }
-    let request = JudgeRequest {
-        file: FileName::new(alloc, turn.files[0])?,
+    Ok(names)
+}
+
+/// Judging files in turn.
+fn request_of(alloc: Global, turn: &Turn) -> Result<JudgeRequest, AllocError> {
+    let file = FileName::new(alloc, turn.first)?;
+    let others = names_of(alloc, turn.others)?;
+    Ok(JudgeRequest {
+        file,
         others,
         detail: Detail::NONE,
         json: turn.json,
@@ -84,12 +95,20 @@ fn is_right<R: AllocGlobal + Files + RandomSource>(
         junit: None,
         at_least: 0,
         scope: Scope::WHOLE,
-    };
+    })
+}
+
+/// Whether files are judged in turn as they should be.
+fn is_right<R: AllocGlobal + Files + RandomSource>(
+    rt: &R,
+    turn: &Turn,
+    request: &JudgeRequest,
+) -> bool {
     let mut bytes: &[u8] = b"x 1 2 put k v\n";
-    let mut out: Vec<u8> = Vec::new(alloc);
-    let mut err: Vec<u8> = Vec::new(alloc);
-    let status = judge_with(rt, &mut bytes, &request, &mut out, &mut err);
-    Ok(status == turn.status && out.as_slice() == turn.told.as_bytes())
+    let mut out: Vec<u8> = Vec::new(rt.alloc());
+    let mut err: Vec<u8> = Vec::new(rt.alloc());
+    let status = judge_with(rt, &mut bytes, request, &mut out, &mut err);
+    status == turn.status && out.as_slice() == turn.told.as_bytes()
 }
 
 #[test]
@@ -98,7 +117,8 @@ fn files_are_judged_in_turn(rt: HostRuntime) -> Result<(), Fail> {
         assert!(rt; fs::write(&rt, file, bytes).is_ok());
     }
     for turn in &TURNS {
-        assert!(rt; is_right(&rt, turn)?);
+        let request = request_of(rt.alloc(), turn)?;
+        assert!(rt; is_right(&rt, turn, &request));
     }
     Ok(())
 }

@@ -1,10 +1,10 @@
 // Reading by pieces.
 use history_text::{ReadTextFault, Reading, TextHistory, TextReader, write_text};
-use std::alloc::{AllocError, Global};
+use std::alloc::Global;
 use std::hash::{BuildHasherDefault, FoldHasher};
 use std::io;
 use std::io::{Error, ErrorKind, Read};
-use std::test::Fail;
+use trace_file::History;
 
 /// Five calls, a remark and a bad line.
 const TEXT: &[u8] =
@@ -43,7 +43,7 @@ struct Pieces {
 }
 
 /// Reads a text by pieces of so many calls.
-fn by_pieces(alloc: Global, reader: &mut Few<'_>, most: usize) -> Result<Pieces, ReadTextFault> {
+fn by_pieces<R: Read>(alloc: Global, reader: &mut R, most: usize) -> Result<Pieces, ReadTextFault> {
     let mut text = TextHistory::new(alloc, BuildHasherDefault::new());
     let reading = Reading {
         skip_bad: true,
@@ -63,68 +63,87 @@ fn by_pieces(alloc: Global, reader: &mut Few<'_>, most: usize) -> Result<Pieces,
     Err(ReadTextFault::OutOfMemory)
 }
 
-/// Whether a text is read right by pieces of so many calls, of which it has so many.
-fn is_right(alloc: Global, few: usize, most: usize, pieces: u32) -> Result<bool, AllocError> {
+/// Whether this is what is written of a history.
+fn is_told(alloc: Global, history: &History, told: &[u8]) -> bool {
+    let mut out = Vec::new(alloc);
+    match write_text(alloc, history, None, &mut out) {
+        Ok(()) => out.as_slice() == told,
+        Err(_) => false,
+    }
+}
+
+/// Whether a text that was read by pieces is the whole.
+fn is_whole(alloc: Global, came: &Pieces) -> bool {
+    came.skipped == 1
+        && came.text.lines.as_slice() == [1u32, 3, 5, 6, 7].as_slice()
+        && is_told(alloc, &came.text.history, TOLD)
+}
+
+/// Whether the text is read right of a reader that gives so few bytes at a time, by pieces of so many calls, of which it has so many.
+fn is_right(alloc: Global, few: usize, most: usize, pieces: u32) -> bool {
     let mut reader = Few {
         rest: TEXT,
         few,
         fails: false,
     };
-    let Ok(came) = by_pieces(alloc, &mut reader, most) else {
-        return Ok(false);
-    };
-    let mut told = Vec::new(alloc);
-    let Ok(()) = write_text(alloc, &came.text.history, None, &mut told) else {
-        return Ok(false);
-    };
-    let lines = came.text.lines.as_slice() == [1u32, 3, 5, 6, 7].as_slice();
-    Ok(told.as_slice() == TOLD && lines && came.pieces == pieces && came.skipped == 1)
-}
-
-#[test]
-fn pieces_are_the_whole(rt: HostRuntime) -> Result<(), Fail> {
-    for few in [1usize, 3, 4096] {
-        assert!(rt; is_right(rt.alloc(), few, 1, 6)?);
-        assert!(rt; is_right(rt.alloc(), few, 2, 3)?);
-        assert!(rt; is_right(rt.alloc(), few, 1000, 1)?);
+    match by_pieces(alloc, &mut reader, most) {
+        Ok(came) => came.pieces == pieces && is_whole(alloc, &came),
+        Err(_) => false,
     }
-    Ok(())
 }
 
+/// How few bytes come at a time, how many calls a piece has, and how many pieces there are then.
+const PIECES: [(usize, usize, u32); 9] = [
+    (1, 1, 6),
+    (1, 2, 3),
+    (1, 1000, 1),
+    (3, 1, 6),
+    (3, 2, 3),
+    (3, 1000, 1),
+    (4096, 1, 6),
+    (4096, 2, 3),
+    (4096, 1000, 1),
+];
+
 #[test]
-fn a_failed_read_is_told(rt: HostRuntime) -> Result<(), Fail> {
-    for most in [1usize, 1000] {
-        let mut reader = Few {
-            rest: TEXT,
-            few: 3,
-            fails: true,
-        };
-        assert!(rt;
-            matches!(
-                by_pieces(rt.alloc(), &mut reader, most),
-                Err(ReadTextFault::ReadFault)
-            )
-        );
+fn pieces_are_the_whole(rt: HostRuntime) {
+    for (few, most, pieces) in PIECES {
+        assert!(rt; is_right(rt.alloc(), few, most, pieces), "{few} {most}");
     }
-    Ok(())
 }
 
-#[test]
-fn some_calls_are_kept(rt: HostRuntime) -> Result<(), Fail> {
+/// Whether a failed read is told by pieces of so many calls.
+fn fails_so(alloc: Global, most: usize) -> bool {
     let mut reader = Few {
         rest: TEXT,
-        few: 100,
-        fails: false,
+        few: 3,
+        fails: true,
     };
-    let Ok(mut came) = by_pieces(rt.alloc(), &mut reader, 1000) else {
-        assert!(rt; false);
-        return Ok(());
-    };
-    came.text.keep(rt.alloc(), &[4, 1, 9])?;
-    let mut told = Vec::new(rt.alloc());
-    assert!(rt; write_text(rt.alloc(), &came.text.history, None, &mut told).is_ok());
-    assert!(rt; told.as_slice() == b"c0 9 9 put k w\nc1 3 - remove k\n".as_slice());
-    assert!(rt; came.text.lines.as_slice() == [7u32, 3].as_slice());
-    assert!(rt; came.text.callers.len() == 3);
-    Ok(())
+    match by_pieces(alloc, &mut reader, most) {
+        Err(ReadTextFault::ReadFault) => true,
+        _ => false,
+    }
+}
+
+#[test]
+fn a_failed_read_is_told(rt: HostRuntime) {
+    assert!(rt; fails_so(rt.alloc(), 1));
+    assert!(rt; fails_so(rt.alloc(), 1000));
+}
+
+/// Whether the last call and the second of a text that was read are kept, in this order, with all callers.
+fn keeps_some(alloc: Global, text: &mut TextHistory<BuildHasherDefault<FoldHasher>>) -> bool {
+    text.keep(alloc, &[4, 1, 9]).is_ok()
+        && is_told(alloc, &text.history, b"c0 9 9 put k w\nc1 3 - remove k\n")
+        && text.lines.as_slice() == [7u32, 3].as_slice()
+        && text.callers.len() == 3
+}
+
+#[test]
+fn some_calls_are_kept(rt: HostRuntime) {
+    let mut bytes = TEXT;
+    match by_pieces(rt.alloc(), &mut bytes, 1000) {
+        Ok(mut came) => assert!(rt; keeps_some(rt.alloc(), &mut came.text)),
+        Err(_) => assert!(rt; false),
+    }
 }

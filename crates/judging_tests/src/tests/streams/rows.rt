@@ -27,10 +27,12 @@ fn end_of(found: &Found) -> End {
 
 fn end_of_fault(fault: ReadTextFault) -> End {
     match fault {
-        ReadTextFault::Bad(BadLine {
-            number,
-            cause: LineCause::BeforeWindow,
-        }) => End::Late(number),
+        ReadTextFault::Bad(
+            BadLine {
+                number,
+                cause: LineCause::BeforeWindow,
+            },
+        ) => End::Late(number),
         _ => End::Fault,
     }
 }
@@ -69,32 +71,107 @@ type Row = (&'static str, bool, u64, u64, End);
 const ROWS: [Row; 13] = [
     ("", false, 0, 0, End::Accepted),
     // a hit reads a value that was replaced, and whose put was forgotten
-    ("a 0 1 put k v\na 2 3 put k w\na 4 5 hit k w\na 6 7 hit k w\na 8 9 hit k v\n", false, 0, 0, End::Rejected),
+    (
+        "a 0 1 put k v\na 2 3 put k w\na 4 5 hit k w\na 6 7 hit k w\na 8 9 hit k v\n",
+        false,
+        0,
+        0,
+        End::Rejected,
+    ),
     // it reads the value that stands
-    ("a 0 1 put k v\na 2 3 put k w\na 4 5 hit k w\na 6 7 hit k w\na 8 9 hit k w\n", false, 0, 0, End::Accepted),
+    (
+        "a 0 1 put k v\na 2 3 put k w\na 4 5 hit k w\na 6 7 hit k w\na 8 9 hit k w\n",
+        false,
+        0,
+        0,
+        End::Accepted,
+    ),
     // a write that a later hit reads is kept, however old it is
-    ("a 0 1 put k v\na 2 3 miss j\na 40 50 miss j\na 60 70 miss j\na 80 90 hit k v\n", false, 0, 0, End::Accepted),
+    (
+        "a 0 1 put k v\na 2 3 miss j\na 40 50 miss j\na 60 70 miss j\na 80 90 hit k v\n",
+        false,
+        0,
+        0,
+        End::Accepted,
+    ),
     // a stale hit of a key whose writes were forgotten but one is not taken as there from the start
-    ("a 0 1 put k v\na 2 3 put k w\na 4 5 hit k w\na 6 7 hit k w\na 8 9 hit k u\n", true, 0, 0, End::Rejected),
-    ("a 0 1 put k v\na 2 3 remove k\na 4 5 miss k\na 6 7 miss k\na 8 9 hit k v\n", true, 0, 0, End::Rejected),
+    (
+        "a 0 1 put k v\na 2 3 put k w\na 4 5 hit k w\na 6 7 hit k w\na 8 9 hit k u\n",
+        true,
+        0,
+        0,
+        End::Rejected,
+    ),
+    (
+        "a 0 1 put k v\na 2 3 remove k\na 4 5 miss k\na 6 7 miss k\na 8 9 hit k v\n",
+        true,
+        0,
+        0,
+        End::Rejected,
+    ),
     // a value that was there from the start is read once and again, until it is replaced
-    ("a 1 2 hit k v\na 3 4 hit k v\na 5 6 miss j\na 7 8 hit k v\na 9 10 put k w\n", true, 0, 0, End::Accepted),
-    ("a 1 2 hit k v\na 3 4 hit k v\na 5 6 put k w\na 7 8 hit k w\na 9 10 hit k v\n", true, 0, 0, End::Rejected),
+    (
+        "a 1 2 hit k v\na 3 4 hit k v\na 5 6 miss j\na 7 8 hit k v\na 9 10 put k w\n",
+        true,
+        0,
+        0,
+        End::Accepted,
+    ),
+    (
+        "a 1 2 hit k v\na 3 4 hit k v\na 5 6 put k w\na 7 8 hit k w\na 9 10 hit k v\n",
+        true,
+        0,
+        0,
+        End::Rejected,
+    ),
     // another value can't have been there too
-    ("a 1 2 hit k v\na 3 4 hit k v\na 5 6 miss j\na 7 8 hit k u\n", true, 0, 0, End::Rejected),
+    (
+        "a 1 2 hit k v\na 3 4 hit k v\na 5 6 miss j\na 7 8 hit k u\n",
+        true,
+        0,
+        0,
+        End::Rejected,
+    ),
     // a key whose first call comes late may have been there from the start
-    ("a 1 2 put j v\na 3 4 hit j v\na 5 6 put j w\na 7 8 hit k u\n", true, 0, 0, End::Accepted),
+    (
+        "a 1 2 put j v\na 3 4 hit j v\na 5 6 put j w\na 7 8 hit k u\n",
+        true,
+        0,
+        0,
+        End::Accepted,
+    ),
     // a call starts before the last end
-    ("a 0 1 put k v\na 2 9 put k w\na 8 10 hit k w\n", false, 0, 0, End::Late(3)),
-    ("a 0 1 put k v\na 2 9 put k w\na 8 10 hit k w\n", false, 0, 1, End::Accepted),
+    (
+        "a 0 1 put k v\na 2 9 put k w\na 8 10 hit k w\n",
+        false,
+        0,
+        0,
+        End::Late(3),
+    ),
+    (
+        "a 0 1 put k v\na 2 9 put k w\na 8 10 hit k w\n",
+        false,
+        0,
+        1,
+        End::Accepted,
+    ),
     // with a skew each call starts earlier and ends later
-    ("a 0 1 put k v\na 2 3 put k w\na 3 4 hit k w\n", false, 1, 1, End::Late(3)),
+    (
+        "a 0 1 put k v\na 2 3 put k w\na 3 4 hit k w\n",
+        false,
+        1,
+        1,
+        End::Late(3),
+    ),
 ];
 
 #[test]
 fn rows_are_judged_with_a_window(rt: HostRuntime) -> Result<(), Fail> {
     for (text, warm, skew, window, end) in ROWS {
-        assert!(rt; streamed(rt.alloc(), text, scope(warm, skew), window, 1) == end, "{text}");
+        assert!(rt;
+            streamed(rt.alloc(), text, scope(warm, skew), window, 1) == end,
+            "{text}"
+        );
     }
     Ok(())
 }

@@ -1,0 +1,3 @@
+// Texts that are judged as their calls come, with a window.
+mod random;
+mod rows;
