@@ -2,7 +2,6 @@
 use Rattle.std.proofs.Common.{◌≡◌, ◌∙◌, ◌+◌, ◌==◌, ℕ, List, [], Option, Some, None, ap, arith, length, option_and_then, refl, sym}
 use Rattle.std.proofs.lemmas.List.{drop_all}
 use Rattle.std.specs.List.{after_first, before_first, position_or_len}
-use Rattle.history_text.specs.declared.share.Share.{Share}
 use Rattle.command_line.specs.CommandLine.{number_to, share_from, share_in}
 use Rattle.command_line.proofs.asked_file.share_in.Goals as goal
 

@@ -1,5 +1,5 @@
 -- What was found for the files.
-use Rattle.std.proofs.Common.{◌≡◌, ◌∙◌, ap, codes, IsSome, List, Option, Some, None, map, option_map, subst, sym, refl}
+use Rattle.std.proofs.Common.{◌∙◌, codes, IsSome, Option, subst}
 use Rattle.clap.specs.Words.{found_of, rows_of}
 use Rattle.clap.proofs.WalkLemmas.{raw_values-rows}
 use Rattle.command_line.specs.CommandLine.{Wanted}
