@@ -1,15 +1,13 @@
 -- What is told of a text, by what was found for what it spells.
-use Rattle.std.proofs.Common.{◌≡◌, ℕ, Bool, List, Option, None, Some, subst, sym}
+use Rattle.std.proofs.Common.{◌≡◌, ℕ, Bool, List, Option, subst, sym}
 use Rattle.figures.specs.declared.form.Form.{Form}
-use Rattle.history_text.specs.declared.read_text_fault.ReadTextFault.{ReadTextFault}
 use Rattle.history_text.specs.Text.{Text}
 use Rattle.judge_run.specs.declared.detail.Detail.{Detail}
 use Rattle.judge_run.specs.declared.extent.Extent.{Extent}
 use Rattle.judge_run.specs.declared.outcome.Outcome.{Outcome}
 use Rattle.judge_run.specs.declared.outcome.Outcome.TheVariants.{Accepted, Rejected, Undecided, BadLine, BadTrace}
 use Rattle.judge_run.specs.declared.scope.Scope.{Scope}
-use Rattle.judge_run.specs.Scopes.{IsJudged}
-use Rattle.judge_run.specs.Streams.{IsEndedBy, IsFaultBy, IsJudgedBy, IsLeftBy, IsStreamFault, IsStreamed}
+use Rattle.judge_run.specs.Streams.{IsJudgedBy}
 use Rattle.judge_run.specs.TextTold.{IsHistoryTold, IsTextTold, told_accepted, told_decided}
 
 pub text_told : (form : Form) (scope : Scope) (known : Option (List ℕ)) (detail : Detail) (text : Text) (extent : Extent) (accepted decided : Bool) (outcome : Outcome) (told : List ℕ) → IsJudgedBy scope.window scope known accepted decided text extent → told_accepted outcome ≡ accepted → told_decided outcome ≡ decided → IsHistoryTold form text extent detail outcome told → IsTextTold form scope known detail outcome told

@@ -1,4 +1,4 @@
-use Rattle.std.proofs.Common.{◌≡◌, ℕ, List, ◌∷◌, take}
+use Rattle.std.proofs.Common.{◌∷◌, take}
 use Rattle.figures.specs.Figures.{form_of}
 use Rattle.judge_run.specs.Runs.{JudgedInTurn}
 use Rattle.judge_run.proofs.run.judge_with.Given as goal
