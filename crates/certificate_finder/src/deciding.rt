@@ -146,7 +146,7 @@ fn certificate_by_owners(
     ensures { IfOk result (MakesAccepted steps.now) }
 {
     let zones = zones_of(alloc, steps, owners)?;
-    match certificate_by_zones(alloc, steps, owners, zones.as_slice()) {
+    match certificate_by_zones(alloc, steps, owners, zones) {
         Ok(certificate) => Ok(certificate),
         Err(refused) => Err(refused),
     }

@@ -112,7 +112,7 @@ fn found_of(alloc: Global, steps: &[NumberedCall]) -> Result<Found, AllocError>
         let excluded = excluded_of(alloc, steps, puts.as_slice(), first.position)?;
         return Ok(Found::Rejected(Witness::Hit(first.position, excluded)));
     }
-    match arranged(alloc, steps, puts.as_slice(), owners) {
+    match arranged(alloc, steps, puts, owners) {
         Ok(found) => Ok(found),
         Err(refused) => Err(refused),
     }
@@ -122,12 +122,12 @@ fn found_of(alloc: Global, steps: &[NumberedCall]) -> Result<Found, AllocError>
 fn arranged(
     alloc: Global,
     steps: &[NumberedCall],
-    puts: &[Put],
+    puts: Vec<Put>,
     owners: Owners,
 ) -> Result<Found, AllocError>
     requires few { length steps.now < 2 ^ 31 }
     requires fit { All IsFit steps.now }
-    requires puts { ArePuts steps.now puts.now }
+    requires puts { ArePuts steps.now puts.items }
     requires owners { AreSureOwners steps.now (length steps.now) owners.owners.items owners.unsure.items }
     ensures { IfOk result (λ found. (history : List Call) → AreSteps history steps.now
         → AreForward history → IsFound history found) }
@@ -144,10 +144,11 @@ fn arranged(
     }
     let doubtful = unsure.as_slice();
     if doubtful.is_empty() {
-        let certificate = certificate_by_zones(alloc, steps, owned, listed)?;
+        drop(puts);
+        let certificate = certificate_by_zones(alloc, steps, owned, zones)?;
         return Ok(Found::Accepted(certificate));
     }
-    match chosen(alloc, steps, puts, owned, unsure) {
+    match chosen(alloc, steps, puts.as_slice(), owned, unsure) {
         Ok(found) => Ok(found),
         Err(refused) => Err(refused),
     }

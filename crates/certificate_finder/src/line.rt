@@ -16,25 +16,30 @@ use std::alloc::{AllocError, Global};
 use trace_file::Certificate;
 
 /// The calls of a history by points of time, if each hit goes with a put that it can have read and the zones follow on.
+/// Each list is given back once the next one stands.
 pub(crate) fn certificate_by_zones(
     alloc: Global,
     steps: &[NumberedCall],
     owners: &[u32],
-    zones: &[Zone],
+    zones: Vec<Zone>,
 ) -> Result<Certificate, AllocError>
     requires few { length steps.now < 2 ^ 31 }
-    requires few_zones { length zones.now < 2 ^ 31 }
+    requires few_zones { length zones.items < 2 ^ 31 }
     requires owners { AreOwners steps.now owners.now }
-    requires zones { AreZones steps.now owners.now zones.now }
-    requires follow { AllPairs FollowOn zones.now }
+    requires zones { AreZones steps.now owners.now zones.items }
+    requires follow { AllPairs FollowOn zones.items }
     ensures { IfOk result (λ certificate. (history : List Call) → AreSteps history steps.now
         → All (λ call. call.start ≤ call.end) history → IsAccepted history certificate) }
 {
-    let places = places_of(alloc, steps.len(), zones)?;
+    let listed = zones.as_slice();
+    let places = places_of(alloc, steps.len(), listed)?;
     let placed = places.as_slice();
-    let line = line_of(alloc, steps, owners, placed, zones.len())?;
+    let line = line_of(alloc, steps, owners, placed, listed.len())?;
+    drop(places);
+    drop(zones);
     let turns = line.as_slice();
     let spots = spots_of(alloc, steps, turns)?;
+    drop(line);
     let spotted = spots.as_slice();
     match certificate_of(alloc, spotted) {
         Ok(certificate) => Ok(certificate),

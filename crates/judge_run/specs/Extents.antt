@@ -1,5 +1,5 @@
 -- How what is judged differs from what a text spells.
-use Rattle.std.specs.Prelude.{ℕ, ◌+◌, ◌-◌, ◌^◌, min, Bool, true, false, List, [], ◌∷◌, ◌++◌, codes, Option, Some, None, option_map, unwrap_or}
+use Rattle.std.specs.Prelude.{ℕ, ◌+◌, ◌-◌, ◌^◌, min, List, [], ◌∷◌, ◌++◌, codes, Option, Some, None, option_map, unwrap_or}
 use Rattle.std.specs.Fmt.{decimal}
 use Rattle.figures.specs.Figures.{Row, number, row}
 use Rattle.judge_run.specs.declared.extent.Extent.{Extent}
