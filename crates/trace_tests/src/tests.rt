@@ -1,3 +1,4 @@
 mod checker;
 mod rows;
 mod traces;
+mod verdicts;

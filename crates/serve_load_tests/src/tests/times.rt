@@ -52,7 +52,7 @@ fn a_histogram_tells_its_times(rt: HostRuntime) -> Result<(), Fail> {
     assert_eq!(rt; more_than_half_of_two(&mut Histogram::new(alloc)?), 64);
     assert_eq!(rt; all_of_one(&mut Histogram::new(alloc)?), 100);
     let merged = merged_longest(&mut Histogram::new(alloc)?, &mut Histogram::new(alloc)?);
-    assert!(rt; merged == (2, 9));
+    assert!(rt; merged.0 == 2 && merged.1 == 9);
     Ok(())
 }
 

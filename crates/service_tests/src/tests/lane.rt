@@ -55,6 +55,16 @@ fn after(alloc: Global, slots: u32, steps: &[Step]) -> Result<(Option<usize>, Co
     Ok((stray, lane.counts()))
 }
 
+/// Whether each of these counters has this number.
+fn are(counts: &Counts, wanted: &[(Counter, u64)]) -> bool {
+    for (counter, number) in wanted {
+        if counts.of(*counter) != *number {
+            return false;
+        }
+    }
+    true
+}
+
 const EACH_TIER: [Step; 15] = [
     Step::Get(b"ax", 0, Found::Absent),
     Step::Put(b"ax", b"1", 9, Pushed::Nobody),
@@ -77,37 +87,26 @@ const EACH_TIER: [Step; 15] = [
 fn a_value_is_a_hit_in_each_tier_and_each_call_is_counted(rt: HostRuntime) -> Result<(), Fail> {
     let (stray, counts) = after(rt.alloc(), 1, &EACH_TIER)?;
     assert_eq!(rt; stray, None);
-    let hits = (
-        counts.of(Counter::MemoryHits),
-        counts.of(Counter::LogHits),
-        counts.of(Counter::SetHits),
+    assert!(rt;
+        are(
+            &counts,
+            &[
+                (Counter::MemoryHits, 1),
+                (Counter::LogHits, 2),
+                (Counter::SetHits, 1),
+                (Counter::Absent, 2),
+                (Counter::Expired, 2),
+                (Counter::Removals, 1),
+                (Counter::PutsStored, 2),
+                (Counter::PutsBytes, 6),
+                (Counter::Logged, 1),
+                (Counter::Sealed, 1),
+                (Counter::PagesWritten, 1),
+                (Counter::SetsWritten, 1),
+                (Counter::SegmentsFreed, 1)
+            ]
+        )
     );
-    assert_eq!(rt; hits, (1, 2, 1));
-    assert_eq!(rt;
-        (
-            counts.of(Counter::Absent),
-            counts.of(Counter::Expired),
-            counts.of(Counter::Removals)
-        ),
-        (2, 2, 1)
-    );
-    assert_eq!(rt;
-        (
-            counts.of(Counter::PutsStored),
-            counts.of(Counter::PutsBytes),
-            counts.of(Counter::Logged)
-        ),
-        (2, 6, 1)
-    );
-    assert_eq!(rt;
-        (
-            counts.of(Counter::Sealed),
-            counts.of(Counter::PagesWritten),
-            counts.of(Counter::SetsWritten)
-        ),
-        (1, 1, 1)
-    );
-    assert_eq!(rt; counts.of(Counter::SegmentsFreed), 1);
     Ok(())
 }
 
@@ -133,20 +132,17 @@ const LEASES: [Step; 14] = [
 fn a_lease_ends_with_the_next_write_of_its_slot(rt: HostRuntime) -> Result<(), Fail> {
     let (stray, counts) = after(rt.alloc(), 1, &LEASES)?;
     assert_eq!(rt; stray, None);
-    assert_eq!(rt;
-        (
-            counts.of(Counter::LeasesGiven),
-            counts.of(Counter::FillsStale)
-        ),
-        (4, 4)
-    );
-    assert_eq!(rt;
-        (
-            counts.of(Counter::FillsStored),
-            counts.of(Counter::FillsBytes),
-            counts.of(Counter::PutsStored)
-        ),
-        (1, 3, 2)
+    assert!(rt;
+        are(
+            &counts,
+            &[
+                (Counter::LeasesGiven, 4),
+                (Counter::FillsStale, 4),
+                (Counter::FillsStored, 1),
+                (Counter::FillsBytes, 3),
+                (Counter::PutsStored, 2)
+            ]
+        )
     );
     Ok(())
 }
@@ -184,13 +180,15 @@ const REFUSED: [Step; 7] = [
 fn a_refused_put_leaves_the_older_value_or_removes_it(rt: HostRuntime) -> Result<(), Fail> {
     let (stray, counts) = after(rt.alloc(), 1, &REFUSED)?;
     assert_eq!(rt; stray, None);
-    assert_eq!(rt;
-        (
-            counts.of(Counter::PutsStored),
-            counts.of(Counter::PutsTooLarge),
-            counts.of(Counter::Removals)
-        ),
-        (2, 2, 1)
+    assert!(rt;
+        are(
+            &counts,
+            &[
+                (Counter::PutsStored, 2),
+                (Counter::PutsTooLarge, 2),
+                (Counter::Removals, 1)
+            ]
+        )
     );
     Ok(())
 }
@@ -232,22 +230,19 @@ const TENDED: [Step; 13] = [
 fn a_lane_is_tended_where_something_is_due(rt: HostRuntime) -> Result<(), Fail> {
     let (stray, counts) = after(rt.alloc(), 1, &TENDED)?;
     assert_eq!(rt; stray, None);
-    assert_eq!(rt;
-        (
-            counts.of(Counter::UpkeepSteps),
-            counts.of(Counter::StepsInHelp)
-        ),
-        (4, 1)
+    assert!(rt;
+        are(
+            &counts,
+            &[
+                (Counter::UpkeepSteps, 4),
+                (Counter::StepsInHelp, 1),
+                (Counter::PagesWritten, 2),
+                (Counter::SetsWritten, 1),
+                (Counter::SegmentsFreed, 1),
+                (Counter::Sealed, 0)
+            ]
+        )
     );
-    assert_eq!(rt;
-        (
-            counts.of(Counter::PagesWritten),
-            counts.of(Counter::SetsWritten),
-            counts.of(Counter::SegmentsFreed)
-        ),
-        (2, 1, 1)
-    );
-    assert_eq!(rt; counts.of(Counter::Sealed), 0);
     Ok(())
 }
 
@@ -266,16 +261,16 @@ const UNTENDED: [Step; 7] = [
 fn an_object_is_lost_and_counted_where_nobody_tends(rt: HostRuntime) -> Result<(), Fail> {
     let (stray, counts) = after(rt.alloc(), 1, &UNTENDED)?;
     assert_eq!(rt; stray, None);
-    assert_eq!(rt;
-        (counts.of(Counter::Logged), counts.of(Counter::LogFull)),
-        (4, 1)
-    );
-    assert_eq!(rt;
-        (
-            counts.of(Counter::PutsStored),
-            counts.of(Counter::UpkeepSteps)
-        ),
-        (6, 0)
+    assert!(rt;
+        are(
+            &counts,
+            &[
+                (Counter::Logged, 4),
+                (Counter::LogFull, 1),
+                (Counter::PutsStored, 6),
+                (Counter::UpkeepSteps, 0)
+            ]
+        )
     );
     Ok(())
 }
@@ -289,13 +284,16 @@ fn counts_are_added_counter_by_counter(rt: HostRuntime) -> Result<(), Fail> {
     other.add(Counter::Removals, u64::MAX);
     other.add(Counter::StepsInHelp, 7);
     let both = one.together(&other);
-    assert_eq!(rt;
-        (both.of(Counter::MemoryHits), both.of(Counter::LogHits)),
-        (3, 0)
-    );
-    assert_eq!(rt;
-        (both.of(Counter::Removals), both.of(Counter::StepsInHelp)),
-        (4, 7)
+    assert!(rt;
+        are(
+            &both,
+            &[
+                (Counter::MemoryHits, 3),
+                (Counter::LogHits, 0),
+                (Counter::Removals, 4),
+                (Counter::StepsInHelp, 7)
+            ]
+        )
     );
     assert_ne!(rt; both, one);
     Ok(())

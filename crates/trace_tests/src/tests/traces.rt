@@ -140,7 +140,7 @@ fn one_put_is_read_and_written_again(rt: HostRuntime) {
 
 /// Whether a call has this caller, these stamps and this key.
 fn is(call: &CallRef<'_>, caller: u16, start: u64, end: u64, key: &[u8]) -> bool {
-    (call.caller, call.start, call.end) == (caller, start, end) && call.key == key
+    call.caller == caller && call.start == start && call.end == end && call.key == key
 }
 
 /// Whether these are the calls of `EACH_KIND`, with this expiry and this moment.

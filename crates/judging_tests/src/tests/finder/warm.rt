@@ -135,7 +135,9 @@ fn is_warm_put(call: &CallRef<'_>, key: &[u8], value: &[u8]) -> bool {
     let ActRef::Put(bytes, expires) = call.act else {
         return false;
     };
-    (call.caller, call.start, call.end) == (WARM_CALLER, 0, 0)
+    call.caller == WARM_CALLER
+        && call.start == 0
+        && call.end == 0
         && call.key == key
         && bytes == value
         && expires == NEVER

@@ -69,7 +69,7 @@ fn copies_are_alike(rt: HostRuntime) -> Result<(), Fail> {
     assert!(rt; made.key.try_clone()? == made.key);
     assert!(rt; made.value.try_clone()? == made.value);
     assert!(rt; made.lent().to_record(rt.alloc())? == made);
-    assert_eq!(rt; (made.size(), made.lent().size()), (15, 15));
+    assert!(rt; made.size() == 15 && made.lent().size() == 15);
     Ok(())
 }
 

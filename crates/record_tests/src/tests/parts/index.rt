@@ -43,7 +43,9 @@ fn is_seen(entry: Option<Entry>, seen: Option<Seen>) -> bool {
 fn is_entry(entry: &Entry, seen: &Seen) -> bool {
     entry.set == seen.0
         && entry.tag == seen.1
-        && (entry.place.segment, entry.place.page, entry.place.slot) == (seen.2, seen.3, seen.4)
+        && entry.place.segment == seen.2
+        && entry.place.page == seen.3
+        && entry.place.slot == seen.4
         && entry.prediction.get() == seen.5
 }
 

@@ -201,6 +201,6 @@ fn a_large_memory_holds_all_that_was_put(rt: HostRuntime) -> Result<(), Fail> {
         let out = put(&rt, alloc, &mut memory, &[number], &[number, number])?;
         assert!(rt; is_out(out, None) && is_value(memory.peek(&first), Some(&[0, 0])));
     }
-    assert_eq!(rt; (memory.len(), memory.capacity()), (100, 4294967295));
+    assert!(rt; memory.len() == 100 && memory.capacity() == 4294967295);
     Ok(())
 }

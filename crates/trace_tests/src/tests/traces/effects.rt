@@ -112,7 +112,7 @@ fn is_read(alloc: Global, long: &[u8], row: &Reads) -> bool {
         most: 0,
     };
     let fault = read_trace(alloc, &mut reader).err();
-    fault == row.3 && (reader.calls, reader.least, reader.most) == (row.2, 4096, 4096)
+    fault == row.3 && reader.calls == row.2 && reader.least == 4096 && reader.most == 4096
 }
 
 #[test]
@@ -143,7 +143,8 @@ fn is_written(trace: &Trace, row: &Writes) -> bool {
     };
     let written = write_trace(&trace.history, &trace.certificate, &mut writer);
     written.err() == row.3
-        && (writer.calls, writer.flushes) == (row.2, 0)
+        && writer.calls == row.2
+        && writer.flushes == 0
         && (writer.taken == LONG) == row.3.is_none()
 }
 
