@@ -8,8 +8,9 @@ use certificate_checker::{Verdict, check, latest_is_current};
 use std::alloc::{AllocError, Global};
 use trace_file::{Certificate, History};
 
-/// What is accepted ends no call before its start, lists no position twice, and has in each hit what was put last and is live
-/// then. A history of no calls is accepted.
+/// What is accepted ends no call before its start and lists no position twice. In its order a hit that follows a put of its
+/// key, with no write of the key between, has that put's value, live at the hit's moment. A history of no calls is accepted.
+/// Of other hits the clause of `check` says the rest.
 pub fn check_what_it_accepts(
     alloc: Global,
     history: &History,
