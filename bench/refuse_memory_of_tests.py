@@ -3,7 +3,7 @@
 
 usage: refuse_memory_of_tests.py PROGRAM TEST...
 
-PROGRAM is a crate's program of tests that the gate built, such as crates/history_recorder_tests/out/history_recorder_tests_tests,
+PROGRAM is a crate's program of tests that the gate built, such as crates/recorded_tests/out/recorded_tests_tests,
 each TEST the full name of one of its tests. It loads refuse_memory.c, which it compiles with cc. A test to which one request was
 refused must pass, or fail by telling want of memory (a request of the test's own); nothing that it asserts may be untrue.
 """

@@ -1,1 +1,3 @@
 mod RowLaws
+mod TracesRowLaws
+mod VerdictLaws

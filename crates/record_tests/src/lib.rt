@@ -1,4 +1,4 @@
-//! Tests of the records, of the small parts of the tiers, and of the sizes of a cache.
+//! Tests of the records, of the small parts of the tiers, of the sizes of a cache, of traces and of the checker.
 #![tactic(auto)]
 
 #[cfg(test)]

@@ -3,3 +3,4 @@ mod pages;
 mod parts;
 mod rows;
 mod sizes;
+mod traces;

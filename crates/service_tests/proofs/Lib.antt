@@ -1,1 +1,3 @@
 mod LaneRows
+mod CommandRows
+mod ReaderRows

@@ -1,4 +1,4 @@
-//! Tests of what serves: the book of all writes, lanes, lanes with seats, lanes for callers in C, and the cache.
+//! Tests of what serves: the book of all writes, lanes, lanes with seats, lanes for callers in C, the cache, and memcached's commands.
 #![tactic(auto)]
 
 #[cfg(test)]

@@ -3,3 +3,4 @@ mod cache;
 mod for_c;
 mod lane;
 mod seated;
+mod server;

@@ -5,3 +5,8 @@ mod LogOwnerLaws
 mod LogRowLaws
 mod Newest
 mod LogTakeLaws
+mod PutRow
+mod Struck
+mod OthersRow
+mod AbsentRow
+mod PutBackRow

@@ -1,4 +1,4 @@
-//! Tests of the tiers on flash: the sets and the log.
+//! Tests of the tiers on flash, the sets and the log, and of the store of all tiers.
 #![tactic(auto)]
 
 #[cfg(test)]

@@ -1,2 +1,3 @@
 mod log;
 mod sets;
+mod store;

@@ -1,4 +1,5 @@
 //! What is reported, and how the program ends.
+mod answers;
 mod files;
 mod json;
 mod junit;

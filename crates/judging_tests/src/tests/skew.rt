@@ -34,7 +34,7 @@ const BACKWARDS: &'static str = "a 5 3 put k v\n";
 /// Each put has ended 9 before the other one's value is read.
 const CROSSED: &'static str = "a 0 1 put k v\nb 0 1 put k w\nc 10 11 hit k v\nd 10 11 hit k w\n";
 
-const ROWS: [Row; 10] = [
+static ROWS: [Row; 10] = [
     (STALE, 0, Want::Hit),
     (STALE, 2, Want::Hit),
     (STALE, 3, Want::Accepted),

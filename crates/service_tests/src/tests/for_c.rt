@@ -30,7 +30,7 @@ const SHAPE: LaneShape = LaneShape {
     bring_back: 0,
 };
 
-const SEED: Seed = Seed {
+static SEED: Seed = Seed {
     first: 0x0123_4567_89ab_cdef,
     second: 0xfedc_ba98_7654_3210,
 };
@@ -66,7 +66,7 @@ fn after(
     Ok((stray, lane.counters()))
 }
 
-const EACH_STATUS: [Step; 36] = [
+static EACH_STATUS: [Step; 36] = [
     Step::Miss(b"ax", 0, Status::Absent),
     Step::Put(b"ax", b"1", 9, Status::Done),
     Step::Hit(b"ax", 8, b"1", 1),
@@ -176,7 +176,7 @@ fn each_status_comes_and_is_counted(rt: HostRuntime) -> Result<(), Fail> {
 }
 
 // A lane in which three objects are pushed out of memory, over the log to their set.
-const EACH_TIER: [Step; 12] = [
+static EACH_TIER: [Step; 12] = [
     Step::Put(b"ax", b"1", u64::MAX, Status::Done),
     Step::Put(b"bx", &[7; 2048], u64::MAX, Status::Done),
     Step::Hit(b"ax", 0, b"1", 2),
@@ -238,13 +238,13 @@ fn a_lane_opens_over_enough_pages_and_not_with_a_number_out_of_its_range(
 }
 
 // One object of the store in memory, and three copies: of two hits on flash the second has its object copied.
-const BRINGS_BACK: LaneShape = LaneShape {
+static BRINGS_BACK: LaneShape = LaneShape {
     memory: 4,
     bring_back: 2,
     ..SHAPE
 };
 
-const COMES_BACK: [Step; 20] = [
+static COMES_BACK: [Step; 20] = [
     Step::Put(b"ax", b"1", 9, Status::Done),
     Step::Put(b"bx", b"2", u64::MAX, Status::Done),
     Step::Hit(b"ax", 8, b"1", 2),
@@ -288,7 +288,7 @@ fn what_is_hit_on_flash_comes_back_until_it_is_written(rt: HostRuntime) -> Resul
 }
 
 // One object of the store in memory, and three copies: each hit on flash has its object copied.
-const COPIES_EACH: LaneShape = LaneShape {
+static COPIES_EACH: LaneShape = LaneShape {
     memory: 4,
     entries: 32,
     bring_back: 1,
@@ -297,7 +297,7 @@ const COPIES_EACH: LaneShape = LaneShape {
 
 // Two of the set's objects are copied. Then it forgets itself, with the ninth note that one of its objects is removed. Three objects
 // of the log push the copies out.
-const LOST_BELOW: [Step; 41] = [
+static LOST_BELOW: [Step; 41] = [
     Step::Put(b"ax", b"A", 9, Status::Done),
     Step::Put(b"kkx", b"AA", 7, Status::Done),
     Step::Put(b"bx", b"1", u64::MAX, Status::Done),
@@ -361,7 +361,7 @@ fn a_copy_that_flash_has_lost_enters_the_log(rt: HostRuntime) -> Result<(), Fail
 }
 
 // Objects of the log are copied, one more than there is room for. The copies of those that are put or removed are gone.
-const WRITTEN_SINCE: [Step; 16] = [
+static WRITTEN_SINCE: [Step; 16] = [
     Step::Put(b"ax", b"1", 9, Status::Done),
     Step::Put(b"bx", b"2", u64::MAX, Status::Done),
     Step::Put(b"cx", b"3", 5, Status::Done),
@@ -402,7 +402,7 @@ fn a_copy_goes_where_flash_has_its_object_or_its_key_was_written(
 }
 
 // A shape whose numbers are all one below their least, or above their greatest if the least is 0.
-const LOW: LaneShape = LaneShape {
+static LOW: LaneShape = LaneShape {
     shards: 0,
     lanes: 0,
     sets: 0,
@@ -417,7 +417,7 @@ const LOW: LaneShape = LaneShape {
 };
 
 // One whose numbers are all one above their greatest.
-const HIGH: LaneShape = LaneShape {
+static HIGH: LaneShape = LaneShape {
     shards: 1025,
     lanes: 17,
     sets: 65537,
@@ -432,7 +432,7 @@ const HIGH: LaneShape = LaneShape {
 };
 
 // One whose numbers are all the greatest that they may be.
-const GREATEST: LaneShape = LaneShape {
+static GREATEST: LaneShape = LaneShape {
     shards: 1024,
     lanes: 16,
     sets: 65536,
@@ -572,13 +572,13 @@ fn is_judged(alloc: Global, trace: &[u8], status: Status, text: &[u8]) -> bool {
 }
 
 // One put of `1` at `a`, and its certificate.
-const ONE_PUT: [u8; 40] = [
+static ONE_PUT: [u8; 40] = [
     0x4b, 0x47, 0x54, 0x52, 0x41, 0x43, 0x45, 0x31, 0, 0, 0, 1, 1, 0, 0, 0, 0, 0, 0, 0, 0, 0, 1, 0,
     0, 0, 0, 0, 0, 0, 3, 1, 0x61, 0, 1, 0x31, 0, 0, 0, 0,
 ];
 
 // The same as a hit: nothing was put.
-const ONE_HIT: [u8; 40] = [
+static ONE_HIT: [u8; 40] = [
     0x4b, 0x47, 0x54, 0x52, 0x41, 0x43, 0x45, 0x31, 0, 0, 0, 1, 3, 0, 0, 0, 0, 0, 0, 0, 0, 0, 1, 0,
     0, 0, 0, 0, 0, 0, 3, 1, 0x61, 0, 1, 0x31, 0, 0, 0, 0,
 ];

@@ -65,7 +65,7 @@ fn are(counts: &Counts, wanted: &[(Counter, u64)]) -> bool {
     true
 }
 
-const EACH_TIER: [Step; 15] = [
+static EACH_TIER: [Step; 15] = [
     Step::Get(b"ax", 0, Found::Absent),
     Step::Put(b"ax", b"1", 9, Pushed::Nobody),
     Step::Get(b"ax", 8, Found::Memory(b"1")),
@@ -111,7 +111,7 @@ fn a_value_is_a_hit_in_each_tier_and_each_call_is_counted(rt: HostRuntime) -> Re
 }
 
 // With one slot a write of any key ends a lease.
-const LEASES: [Step; 14] = [
+static LEASES: [Step; 14] = [
     Step::Lease(0, b"ax"),
     Step::Fill(0, b"ax", b"1", Filled::Stored(Pushed::Nobody)),
     Step::Fill(0, b"ax", b"2", Filled::Stale),
@@ -148,7 +148,7 @@ fn a_lease_ends_with_the_next_write_of_its_slot(rt: HostRuntime) -> Result<(), F
 }
 
 // Among many slots the keys have slots of their own. What changes nothing ends no lease.
-const APART: [Step; 8] = [
+static APART: [Step; 8] = [
     Step::Lease(0, b"ax"),
     Step::Put(b"bx", b"1", NEVER, Pushed::Nobody),
     Step::Remove(b"cx"),
@@ -166,7 +166,7 @@ fn a_lease_outlives_what_does_not_write_its_slot(rt: HostRuntime) -> Result<(), 
     Ok(())
 }
 
-const REFUSED: [Step; 7] = [
+static REFUSED: [Step; 7] = [
     Step::Put(b"ax", b"1", NEVER, Pushed::Nobody),
     Step::TooLarge(b"ax", &[7; 225]),
     Step::Get(b"ax", 0, Found::Memory(b"1")),
@@ -193,7 +193,7 @@ fn a_refused_put_leaves_the_older_value_or_removes_it(rt: HostRuntime) -> Result
     Ok(())
 }
 
-const NO_KEYS: [Step; 3] = [
+static NO_KEYS: [Step; 3] = [
     Step::Put(b"ax", b"1", NEVER, Pushed::Nobody),
     Step::NoKey(b"", &[7; 256]),
     Step::Get(b"ax", 0, Found::Memory(b"1")),
@@ -210,7 +210,7 @@ fn bytes_that_are_no_key_are_refused(rt: HostRuntime) -> Result<(), Fail> {
 const FULL: [u8; 100] = [1; 100];
 
 // A page is written once a segment is sealed, and the oldest segment moves once no place is free.
-const TENDED: [Step; 13] = [
+static TENDED: [Step; 13] = [
     Step::Put(b"ax", &FULL, NEVER, Pushed::Nobody),
     Step::Put(b"bx", &FULL, NEVER, Pushed::Logged),
     Step::Put(b"cx", &FULL, NEVER, Pushed::Logged),
@@ -247,7 +247,7 @@ fn a_lane_is_tended_where_something_is_due(rt: HostRuntime) -> Result<(), Fail> 
 }
 
 // Nobody tends it, so with each buffer full the object that leaves memory is lost, and the put is stored.
-const UNTENDED: [Step; 7] = [
+static UNTENDED: [Step; 7] = [
     Step::Put(b"ax", &FULL, NEVER, Pushed::Nobody),
     Step::Put(b"bx", &FULL, NEVER, Pushed::Logged),
     Step::Put(b"cx", &FULL, NEVER, Pushed::Logged),
@@ -320,7 +320,7 @@ const OPENS: Opening = Opening {
 };
 
 // Each refusal comes when all after it apply too; the last opening is not refused.
-const OPENINGS: [Opening; 5] = [
+static OPENINGS: [Opening; 5] = [
     Opening {
         config: NO_SETS,
         slots: 0,

@@ -54,7 +54,7 @@ const NONE_REFUSED: Refused = Refused {
     for_good: false,
 };
 
-const ALL_REFUSED: Refused = Refused {
+static ALL_REFUSED: Refused = Refused {
     call: 0,
     for_good: true,
 };

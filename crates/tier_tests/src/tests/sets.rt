@@ -64,7 +64,7 @@ struct Opened {
     refused: Refused,
 }
 
-const SOUND: Opened = Opened {
+static SOUND: Opened = Opened {
     config: ONE_SET,
     room: Room::EightForEach,
     refused: NONE_REFUSED,

@@ -50,7 +50,7 @@ const TURNED: &[u8] =
 /// A hit of `v` starts 5 after the put of `w` has ended, which starts 10 after the put of `v` has ended.
 const STALE: &[u8] = b"a 0 10 put k v\nb 20 30 put k w\nc 35 40 hit k v\n";
 
-const STEPS: [Step; 43] = [
+static STEPS: [Step; 43] = [
     // what is no file is no trace
     Step::Check("there is no such file", 3),
     Step::Check(".", 2),
@@ -192,44 +192,52 @@ fn judged<R: AllocGlobal + Files + Input + RandomSource>(
     Ok(run_judge(rt, &request, out, err))
 }
 
-/// The same of a standard input of these bytes.
-pub fn judged_input<R: AllocGlobal + Files + RandomSource>(
+/// The status that a request ends with, if the standard input is these bytes.
+pub(super) fn judged_so<R: AllocGlobal + Files + RandomSource>(
     rt: &R,
     mut bytes: &[u8],
+    request: &JudgeRequest,
+    out: &mut Vec<u8>,
+    err: &mut Vec<u8>,
+) -> u8 {
+    judge_with(rt, &mut bytes, request, out, err)
+}
+
+/// The status that judging a standard input of these bytes ends with.
+pub(super) fn judged_input<R: AllocGlobal + Files + RandomSource>(
+    rt: &R,
+    bytes: &[u8],
     out: &mut Vec<u8>,
     err: &mut Vec<u8>,
 ) -> Result<u8, AllocError> {
     let request = judge_of(rt.alloc(), "-")?;
-    Ok(judge_with(rt, &mut bytes, &request, out, err))
+    Ok(judged_so(rt, bytes, &request, out, err))
 }
 
 /// The same, if an accepted history has to have so many calls.
 fn judged_at_least<R: AllocGlobal + Files + RandomSource>(
     rt: &R,
-    mut bytes: &[u8],
+    bytes: &[u8],
     at_least: u64,
     out: &mut Vec<u8>,
     err: &mut Vec<u8>,
 ) -> Result<u8, AllocError> {
     let mut request = judge_of(rt.alloc(), "-")?;
     request.at_least = at_least;
-    Ok(judge_with(rt, &mut bytes, &request, out, err))
+    Ok(judged_so(rt, bytes, &request, out, err))
 }
 
 /// The same, if each stamp may differ from the truth by so much.
 fn judged_skewed<R: AllocGlobal + Files + RandomSource>(
     rt: &R,
-    mut bytes: &[u8],
+    bytes: &[u8],
     skew: u64,
     out: &mut Vec<u8>,
     err: &mut Vec<u8>,
 ) -> Result<u8, AllocError> {
     let mut request = judge_of(rt.alloc(), "-")?;
-    request.scope = Scope {
-        skew,
-        ..Scope::WHOLE
-    };
-    Ok(judge_with(rt, &mut bytes, &request, out, err))
+    request.scope.skew = skew;
+    Ok(judged_so(rt, bytes, &request, out, err))
 }
 
 /// The status that a check of a file ends with.
@@ -244,7 +252,7 @@ fn checked<R: AllocGlobal + Files + Input + RandomSource>(
 }
 
 /// The same of a standard input of these bytes.
-pub fn checked_input<R: AllocGlobal + Files + RandomSource>(
+pub(super) fn checked_input<R: AllocGlobal + Files + RandomSource>(
     rt: &R,
     mut bytes: &[u8],
     out: &mut Vec<u8>,

@@ -1,29 +1,13 @@
 // Answers as JSON objects.
+use super::answers::{CASE, Case, EACH, RIGHT, WHY, is_as_told, is_checked, trace_of, turned};
 use figures::Form;
-use judge_run::{Detail, JudgeEnd, Outcome, Scope, answer_check, answer_judge};
+use judge_run::JudgeEnd;
 use std::alloc::Global;
-use std::hash::{BuildHasherDefault, FoldHasher};
-use trace_file::write_trace;
 
-/// A text that is judged, and what is reported of it.
-#[derive(Clone, Copy)]
-struct Case {
-    text: &'static str,
-    detail: Detail,
-    told: &'static str,
-    end: JudgeEnd,
-}
-
-/// Why a history is rejected.
-const WHY: Detail = Detail {
-    explain: true,
-    all: false,
-};
-
-/// All its faults.
-const EACH: Detail = Detail {
-    explain: false,
-    all: true,
+/// No answer yet, as an object.
+const OBJECT: Case = Case {
+    form: Form::Json,
+    ..CASE
 };
 
 /// A stale hit.
@@ -31,24 +15,23 @@ const STALE: &str =
     "alice 10 14 put color red\nbob 16 21 put color blue\ncarol 25 30 hit color red\n";
 
 /// Texts, each with its object. The verdicts were worked out by hand.
-const CASES: [Case; 11] = [
+static CASES: [Case; 11] = [
     Case {
-        text: "",
         detail: WHY,
         told: "{\"calls\":0,\"puts\":0,\"removals\":0,\"hits\":0,\"misses\":0,\"verdict\":\"accepted\"}\n",
-        end: JudgeEnd::Done,
+        ..OBJECT
     },
     Case {
         text: "a 1 4 put k v\nb 2 6 hit k v\na 5 8 remove k\n",
         detail: WHY,
         told: "{\"calls\":3,\"puts\":1,\"removals\":1,\"hits\":1,\"misses\":0,\"verdict\":\"accepted\"}\n",
-        end: JudgeEnd::Done,
+        ..OBJECT
     },
     Case {
         text: STALE,
-        detail: Detail::NONE,
         told: "{\"calls\":3,\"puts\":2,\"removals\":0,\"hits\":1,\"misses\":0,\"verdict\":\"rejected\",\"kind\":\"hit\",\"key\":\"color\",\"lines\":[1,2,3],\"fault-count\":1,\"fault-keys\":1,\"calls-of-fault\":[{\"line\":1,\"kind\":\"put\",\"key\":\"color\",\"start\":10,\"end\":14,\"value\":\"red\"},{\"line\":2,\"kind\":\"put\",\"key\":\"color\",\"start\":16,\"end\":21,\"value\":\"blue\"},{\"line\":3,\"kind\":\"hit\",\"key\":\"color\",\"start\":25,\"end\":30,\"value\":\"red\"}]}\n",
         end: JudgeEnd::Rejected,
+        ..OBJECT
     },
     // with its explanation, the line feeds of which are escaped
     Case {
@@ -56,6 +39,7 @@ const CASES: [Case; 11] = [
         detail: WHY,
         told: "{\"calls\":3,\"puts\":2,\"removals\":0,\"hits\":1,\"misses\":0,\"verdict\":\"rejected\",\"kind\":\"hit\",\"key\":\"color\",\"lines\":[1,2,3],\"fault-count\":1,\"fault-keys\":1,\"calls-of-fault\":[{\"line\":1,\"kind\":\"put\",\"key\":\"color\",\"start\":10,\"end\":14,\"value\":\"red\"},{\"line\":2,\"kind\":\"put\",\"key\":\"color\",\"start\":16,\"end\":21,\"value\":\"blue\"},{\"line\":3,\"kind\":\"hit\",\"key\":\"color\",\"start\":25,\"end\":30,\"value\":\"red\"}],\"explanation\":\"the hit of red (line 3) is stale: put red (line 1) ended at 14, before put blue (line 2) started at 16, which ended at 21, before the hit started at 25\\n* 1  alice  10  14  put    red   []\\n* 2  bob    16  21  put    blue    []\\n* 3  carol  25  30  hit    red       []\\n\"}\n",
         end: JudgeEnd::Rejected,
+        ..OBJECT
     },
     // three faults at two keys, of which the second hit is of a value that was never put
     Case {
@@ -63,72 +47,48 @@ const CASES: [Case; 11] = [
         detail: EACH,
         told: "{\"calls\":5,\"puts\":2,\"removals\":1,\"hits\":2,\"misses\":0,\"verdict\":\"rejected\",\"kind\":\"interval\",\"key\":\"q\",\"lines\":[1],\"fault-count\":3,\"fault-keys\":2,\"calls-of-fault\":[{\"line\":1,\"kind\":\"remove\",\"key\":\"q\",\"start\":9,\"end\":3}],\"faults\":[{\"kind\":\"interval\",\"key\":\"q\",\"lines\":[1]},{\"kind\":\"hit\",\"key\":\"k\",\"lines\":[3,4,5],\"late\":2},{\"kind\":\"hit\",\"key\":\"k\",\"lines\":[2]}]}\n",
         end: JudgeEnd::Rejected,
+        ..OBJECT
     },
     // a quotation mark and a backslash stand in a word as they are, and are escaped in the object
     Case {
         text: "# the clock ran back\na 9 3 put q\"\\%20 v\n",
-        detail: Detail::NONE,
         told: "{\"calls\":1,\"puts\":1,\"removals\":0,\"hits\":0,\"misses\":0,\"verdict\":\"rejected\",\"kind\":\"interval\",\"key\":\"q\\\"\\\\%20\",\"lines\":[2],\"fault-count\":1,\"fault-keys\":1,\"calls-of-fault\":[{\"line\":2,\"kind\":\"put\",\"key\":\"q\\\"\\\\%20\",\"start\":9,\"end\":3,\"value\":\"v\"}]}\n",
         end: JudgeEnd::Rejected,
+        ..OBJECT
     },
     Case {
         text: "a 1 10 put k x\nb 1 10 put k y\nc 11 12 hit k x\nc 13 14 hit k y\nc 15 16 hit k x\n",
-        detail: Detail::NONE,
         told: "{\"calls\":5,\"puts\":2,\"removals\":0,\"hits\":3,\"misses\":0,\"verdict\":\"rejected\",\"kind\":\"crossed\",\"key\":\"k\",\"lines\":[1,2,4,5],\"fault-count\":1,\"fault-keys\":1,\"calls-of-fault\":[{\"line\":1,\"kind\":\"put\",\"key\":\"k\",\"start\":1,\"end\":10,\"value\":\"x\"},{\"line\":2,\"kind\":\"put\",\"key\":\"k\",\"start\":1,\"end\":10,\"value\":\"y\"},{\"line\":4,\"kind\":\"hit\",\"key\":\"k\",\"start\":13,\"end\":14,\"value\":\"y\"},{\"line\":5,\"kind\":\"hit\",\"key\":\"k\",\"start\":15,\"end\":16,\"value\":\"x\"}]}\n",
         end: JudgeEnd::Rejected,
+        ..OBJECT
     },
     Case {
         text: "a 1 9 put k v\nb 2 8 put k v\nc 3 4 hit k v\n",
         detail: WHY,
         told: "{\"calls\":3,\"puts\":2,\"removals\":0,\"hits\":1,\"misses\":0,\"verdict\":\"accepted\"}\n",
-        end: JudgeEnd::Done,
+        ..OBJECT
     },
     Case {
         text: "a 0 9 put k v\nb 0 9 put k v\nc 0 9 put k w\nd 1 2 hit k v\ne 3 4 hit k w\nd 5 6 hit k v\n",
         detail: WHY,
         told: "{\"calls\":6,\"puts\":3,\"removals\":0,\"hits\":3,\"misses\":0,\"verdict\":\"undecided\",\"undecided-hits\":2}\n",
         end: JudgeEnd::Undecided,
+        ..OBJECT
     },
     Case {
         text: "a 1 2 put k v\n\n# bad\na 1 2 get k\n",
         detail: WHY,
         told: "{\"verdict\":\"bad line\",\"line\":4,\"cause\":\"the fourth word must be put, hit, miss or remove\"}\n",
         end: JudgeEnd::BadInput,
+        ..OBJECT
     },
     Case {
         text: "KGTRACE2",
-        detail: Detail::NONE,
         told: "{\"verdict\":\"bad line\",\"line\":1,\"cause\":\"a line has five to seven words of printable ASCII, separated by single spaces: CALLER START END put|hit|miss|remove KEY [VALUE [TIME]]\"}\n",
         end: JudgeEnd::BadInput,
+        ..OBJECT
     },
 ];
-
-/// Judges a text by a table that hashes by a known seed, and says what came of it.
-fn judged(alloc: Global, text: &str, detail: Detail, told: &mut Vec<u8>) -> Option<Outcome> {
-    let known: BuildHasherDefault<FoldHasher> = BuildHasherDefault::new();
-    let mut reader = text.as_bytes();
-    answer_judge(
-        alloc,
-        known,
-        Form::Json,
-        Scope::WHOLE,
-        detail,
-        &mut reader,
-        told,
-    )
-    .ok()
-}
-
-/// Whether a case is told as it should be.
-fn is_as_told(alloc: Global, case: &Case) -> bool {
-    let mut told: Vec<u8> = Vec::new(alloc);
-    match judged(alloc, case.text, case.detail, &mut told) {
-        Some(outcome) => {
-            told.as_slice() == case.told.as_bytes() && JudgeEnd::of_outcome(&outcome) == case.end
-        }
-        None => false,
-    }
-}
 
 #[test]
 fn each_text_has_its_object(rt: HostRuntime) {
@@ -137,59 +97,18 @@ fn each_text_has_its_object(rt: HostRuntime) {
     }
 }
 
-/// The trace of a put and its hit.
-fn trace(alloc: Global) -> Option<Vec<u8>> {
-    let mut told: Vec<u8> = Vec::new(alloc);
-    let mut bytes: Vec<u8> = Vec::new(alloc);
-    match judged(
-        alloc,
-        "a 1 4 put k v\nb 2 6 hit k v\n",
-        Detail::NONE,
-        &mut told,
-    ) {
-        Some(Outcome::Accepted(accepted)) => {
-            let trace = accepted.trace;
-            match write_trace(&trace.history, &trace.certificate, &mut bytes) {
-                Ok(()) => Some(bytes),
-                Err(_) => None,
-            }
-        }
-        _ => None,
-    }
-}
-
-/// The same with the two places of its certificate turned.
-fn turned(alloc: Global) -> Option<Vec<u8>> {
-    let mut bytes = trace(alloc)?;
-    let len = bytes.len();
-    if len < 8 {
-        return None;
-    }
-    bytes[len - 5] = 1;
-    bytes[len - 1] = 0;
-    Some(bytes)
-}
-
-/// Whether these bytes have this object, and the program ends so.
-fn is_checked(alloc: Global, bytes: &[u8], explain: bool, told: &str, end: JudgeEnd) -> bool {
-    let known: BuildHasherDefault<FoldHasher> = BuildHasherDefault::new();
-    let mut written: Vec<u8> = Vec::new(alloc);
-    let mut reader = bytes;
-    match answer_check(alloc, known, Form::Json, explain, &mut reader, &mut written) {
-        Ok(outcome) => {
-            written.as_slice() == told.as_bytes() && JudgeEnd::of_outcome(&outcome) == end
-        }
-        Err(_) => false,
-    }
-}
-
 /// The object of a trace that is accepted.
 const ACCEPTED: &str = "{\"calls\":2,\"verdict\":\"accepted\"}\n";
 
+/// Whether this is the object of these bytes, and the program ends so.
+fn is_object(alloc: Global, bytes: &[u8], explain: bool, told: &str, end: JudgeEnd) -> bool {
+    is_checked(alloc, bytes, Form::Json, explain, told, end)
+}
+
 /// Whether the trace of a text has it.
 fn is_accepted(alloc: Global) -> bool {
-    match trace(alloc) {
-        Some(bytes) => is_checked(alloc, &bytes, true, ACCEPTED, JudgeEnd::Done),
+    match trace_of(alloc, RIGHT) {
+        Some(bytes) => is_object(alloc, &bytes, true, ACCEPTED, JudgeEnd::Done),
         None => false,
     }
 }
@@ -205,8 +124,8 @@ const EXPLAINED: &str =
 fn is_rejected(alloc: Global) -> bool {
     match turned(alloc) {
         Some(bytes) => {
-            is_checked(alloc, &bytes, false, TURNED, JudgeEnd::Rejected)
-                && is_checked(alloc, &bytes, true, EXPLAINED, JudgeEnd::Rejected)
+            is_object(alloc, &bytes, false, TURNED, JudgeEnd::Rejected)
+                && is_object(alloc, &bytes, true, EXPLAINED, JudgeEnd::Rejected)
         }
         None => false,
     }
@@ -223,6 +142,6 @@ fn each_trace_has_its_object(rt: HostRuntime) {
     let alloc = rt.alloc();
     assert!(rt; is_accepted(alloc));
     assert!(rt; is_rejected(alloc));
-    assert!(rt; is_checked(alloc, b"KGTRACE3", true, NO_MAGIC, JudgeEnd::BadInput));
-    assert!(rt; is_checked(alloc, b"KGTRACE2\0\0", true, CUT, JudgeEnd::BadInput));
+    assert!(rt; is_object(alloc, b"KGTRACE3", true, NO_MAGIC, JudgeEnd::BadInput));
+    assert!(rt; is_object(alloc, b"KGTRACE2\0\0", true, CUT, JudgeEnd::BadInput));
 }

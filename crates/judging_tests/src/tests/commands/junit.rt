@@ -1,8 +1,7 @@
 // What came of judging, as JUnit files.
-use figures::Form;
-use judge_run::{Detail, Outcome, Scope, answer_judge, junit_text};
+use super::answers::{RIGHT, outcome_of};
+use judge_run::junit_text;
 use std::alloc::Global;
-use std::hash::{BuildHasherDefault, FoldHasher};
 
 /// A text that is judged, how many calls it has to have, and its JUnit file between head and tail.
 #[derive(Clone, Copy)]
@@ -19,11 +18,8 @@ const HEAD: &str =
 /// What each file ends with.
 const TAIL: &str = "</testcase>\n</testsuite>\n</testsuites>\n";
 
-/// A put and its hit.
-const RIGHT: &str = "a 1 4 put k v\nb 2 6 hit k v\n";
-
 /// Texts, each with its file. The file of the second one has all that XML escapes.
-const CASES: [Case; 5] = [
+static CASES: [Case; 5] = [
     Case {
         text: RIGHT,
         least: 2,
@@ -51,26 +47,9 @@ const CASES: [Case; 5] = [
     },
 ];
 
-/// What comes of judging a text.
-fn judged(alloc: Global, text: &str) -> Option<Outcome> {
-    let known: BuildHasherDefault<FoldHasher> = BuildHasherDefault::new();
-    let mut told: Vec<u8> = Vec::new(alloc);
-    let mut reader = text.as_bytes();
-    answer_judge(
-        alloc,
-        known,
-        Form::Lines,
-        Scope::WHOLE,
-        Detail::NONE,
-        &mut reader,
-        &mut told,
-    )
-    .ok()
-}
-
 /// Whether a case has its file.
 fn has_file(alloc: Global, case: &Case) -> bool {
-    let Some(outcome) = judged(alloc, case.text) else {
+    let Some(outcome) = outcome_of(alloc, case.text) else {
         return false;
     };
     let file = case.file;

@@ -1,10 +1,8 @@
 // Readers and writers that fail.
+use super::answers::{EVERYTHING, checked, judged};
 use figures::Form;
-use judge_run::{
-    Detail, Outcome, Scope, ShowRequest, TellFault, answer_check, answer_judge, show_with,
-};
+use judge_run::{Outcome, Scope, ShowRequest, TellFault, show_with};
 use std::alloc::{AllocError, Global};
-use std::hash::{BuildHasherDefault, FoldHasher};
 use std::io;
 use std::io::{Error, ErrorKind, Read, Write};
 use std::rt::Files;
@@ -44,29 +42,13 @@ fn unasked() -> Failing {
     Failing { calls: 0, taken: 0 }
 }
 
-/// All that can be said of a history that is rejected.
-const EVERYTHING: Detail = Detail {
-    explain: true,
-    all: true,
-};
-
 /// Judges a text, and says what failed.
 fn fault_of_text<R: Read, W: Write>(
     alloc: Global,
     reader: &mut R,
     writer: &mut W,
 ) -> Option<TellFault> {
-    let known: BuildHasherDefault<FoldHasher> = BuildHasherDefault::new();
-    answer_judge(
-        alloc,
-        known,
-        Form::Lines,
-        Scope::WHOLE,
-        EVERYTHING,
-        reader,
-        writer,
-    )
-    .err()
+    judged(alloc, Form::Lines, Scope::WHOLE, EVERYTHING, reader, writer).err()
 }
 
 /// Whether a text that is not read is a fault, and nothing is told.
@@ -95,10 +77,9 @@ fn is_bad(outcome: &Result<Outcome, TellFault>) -> bool {
 
 /// Whether a trace that is not read is a bad one.
 fn is_unread_trace_bad(alloc: Global) -> bool {
-    let known: BuildHasherDefault<FoldHasher> = BuildHasherDefault::new();
     let mut told: Vec<u8> = Vec::new(alloc);
     let mut reader = unasked();
-    let outcome = answer_check(alloc, known, Form::Lines, true, &mut reader, &mut told);
+    let outcome = checked(alloc, Form::Lines, true, &mut reader, &mut told);
     is_bad(&outcome)
         && reader.calls == 1
         && told.as_slice() == b"bad trace ReadFault at 0\n".as_slice()

@@ -1,30 +1,9 @@
 // What is reported of histories, of traces, and of what is neither.
+use super::answers::{CASE, Case, EACH, WHY, is_as_told, is_checked, trace_of, turned};
 use figures::Form;
-use judge_run::{Detail, JudgeEnd, Outcome, Scope, Shown, answer_check, answer_judge, answer_show};
+use judge_run::{JudgeEnd, Shown, answer_show};
 use std::alloc::Global;
-use std::hash::{BuildHasherDefault, FoldHasher};
-use trace_file::{Trace, TraceFault, write_trace};
-
-/// A text that is judged, and what is reported of it.
-#[derive(Clone, Copy)]
-struct Case {
-    text: &'static str,
-    detail: Detail,
-    told: &'static str,
-    end: JudgeEnd,
-}
-
-/// Why a history is rejected.
-const WHY: Detail = Detail {
-    explain: true,
-    all: false,
-};
-
-/// All its faults.
-const EACH: Detail = Detail {
-    explain: false,
-    all: true,
-};
+use trace_file::TraceFault;
 
 /// A stale hit.
 const STALE: &str =
@@ -51,160 +30,117 @@ fault hit key k lines 2
 ";
 
 /// Texts, each with what is reported of it. The verdicts were worked out by hand.
-const CASES: [Case; 17] = [
+static CASES: [Case; 17] = [
     Case {
-        text: "",
         detail: WHY,
         told: "accepted 0 calls\n",
-        end: JudgeEnd::Done,
+        ..CASE
     },
     Case {
         text: "a 1 4 put k v\nb 2 6 hit k v\na 5 8 remove k\n",
         detail: WHY,
         told: "accepted 3 calls\n",
-        end: JudgeEnd::Done,
+        ..CASE
     },
     Case {
         text: "a 5 - put k v\nb 9 12 hit k v\nc 1 2 miss k",
-        detail: Detail::NONE,
         told: "accepted 3 calls\n",
-        end: JudgeEnd::Done,
+        ..CASE
     },
     Case {
         text: STALE,
-        detail: Detail::NONE,
         told: "rejected hit key color lines 1 2 3\n",
         end: JudgeEnd::Rejected,
+        ..CASE
     },
     Case {
         text: STALE,
         detail: WHY,
         told: EXPLAINED,
         end: JudgeEnd::Rejected,
+        ..CASE
     },
     Case {
         text: FAULTS,
         detail: EACH,
         told: LISTED,
         end: JudgeEnd::Rejected,
+        ..CASE
     },
     Case {
         text: "# the clock ran back\na 9 3 put %2D -\n",
-        detail: Detail::NONE,
         told: "rejected interval key %2D lines 2\n",
         end: JudgeEnd::Rejected,
+        ..CASE
     },
     Case {
         text: "a 1 10 put k x\nb 1 10 put k y\nc 11 12 hit k x\nc 13 14 hit k y\nc 15 16 hit k x\n",
-        detail: Detail::NONE,
         told: "rejected crossed key k lines 1 2 4 5\n",
         end: JudgeEnd::Rejected,
+        ..CASE
     },
     Case {
         text: "a 1 2 put k v 7\nb 3 4 hit k v 7\n",
-        detail: Detail::NONE,
         told: "rejected hit key k lines 1 2\n",
         end: JudgeEnd::Rejected,
+        ..CASE
     },
     Case {
         text: "a 1 2 put k v 7\nb 3 4 hit k v 6\n",
         detail: WHY,
         told: "accepted 2 calls\n",
-        end: JudgeEnd::Done,
+        ..CASE
     },
     Case {
         text: "a 1 2 miss x\na 1 2 hit %2D -",
-        detail: Detail::NONE,
         told: "rejected hit key %2D lines 2\n",
         end: JudgeEnd::Rejected,
+        ..CASE
     },
     Case {
         text: "b 20 21 hit k%20 v\n\n#\na 5 6 put k%20 w\na 1 2 put k%20 v\n",
-        detail: Detail::NONE,
         told: "rejected hit key k%20 lines 1 4 5\n",
         end: JudgeEnd::Rejected,
+        ..CASE
     },
     Case {
         text: "a 1 2 put j v\na 5 6 put k w\nb 20 21 hit k v\n",
-        detail: Detail::NONE,
         told: "rejected hit key k lines 3\n",
         end: JudgeEnd::Rejected,
+        ..CASE
     },
     Case {
         text: "a 1 9 put k v\nb 2 8 put k v\nc 3 4 hit k v\n",
         detail: WHY,
         told: "accepted 3 calls\n",
-        end: JudgeEnd::Done,
+        ..CASE
     },
     Case {
         text: "a 0 9 put k v\nb 0 9 put k v\nc 0 9 put k w\nd 1 2 hit k w\ne 3 4 hit k v\nd 5 6 hit k w\n",
-        detail: Detail::NONE,
         told: "rejected unread key k lines 1 2 3 4 5 6\n",
         end: JudgeEnd::Rejected,
+        ..CASE
     },
     Case {
         text: "a 0 9 put k v\nb 0 9 put k v\nc 0 9 put k w\nd 1 2 hit k v\ne 3 4 hit k w\nd 5 6 hit k v\n",
         detail: WHY,
         told: "undecided 2 hits\n",
         end: JudgeEnd::Undecided,
+        ..CASE
     },
     Case {
         text: "a 1 2 put k v\n\n# bad\na 1 2 get k\n",
         detail: WHY,
         told: "bad line 4: the fourth word must be put, hit, miss or remove\n",
         end: JudgeEnd::BadInput,
+        ..CASE
     },
 ];
-
-/// Judges a text by a table that hashes by a known seed, and says how it ends.
-fn judged(alloc: Global, text: &str, detail: Detail, told: &mut Vec<u8>) -> Option<Outcome> {
-    let known: BuildHasherDefault<FoldHasher> = BuildHasherDefault::new();
-    let mut reader = text.as_bytes();
-    answer_judge(
-        alloc,
-        known,
-        Form::Lines,
-        Scope::WHOLE,
-        detail,
-        &mut reader,
-        told,
-    )
-    .ok()
-}
-
-/// Whether a case is told as it should be.
-fn is_as_told(alloc: Global, case: &Case) -> bool {
-    let mut told: Vec<u8> = Vec::new(alloc);
-    match judged(alloc, case.text, case.detail, &mut told) {
-        Some(outcome) => {
-            told.as_slice() == case.told.as_bytes() && JudgeEnd::of_outcome(&outcome) == case.end
-        }
-        None => false,
-    }
-}
 
 #[test]
 fn each_text_has_its_verdict(rt: HostRuntime) {
     for case in &CASES {
         assert!(rt; is_as_told(rt.alloc(), case));
-    }
-}
-
-/// The bytes of the trace that a text gives.
-fn trace_of(alloc: Global, text: &str) -> Option<Vec<u8>> {
-    let mut told: Vec<u8> = Vec::new(alloc);
-    match judged(alloc, text, Detail::NONE, &mut told) {
-        Some(Outcome::Accepted(accepted)) => bytes_of(alloc, &accepted.trace),
-        _ => None,
-    }
-}
-
-/// The bytes of a trace.
-fn bytes_of(alloc: Global, trace: &Trace) -> Option<Vec<u8>> {
-    let mut bytes: Vec<u8> = Vec::new(alloc);
-    match write_trace(&trace.history, &trace.certificate, &mut bytes) {
-        Ok(()) => Some(bytes),
-        Err(_) => None,
     }
 }
 
@@ -216,27 +152,15 @@ const TEXT: &str =
 const SHOWN: &str =
     "c0 2 6 hit k v\nc1 1 4 put k v\nc1 5 8 remove k\nc0 7 - put %2D - 9\nc1 10 11 hit %2D - 3\nc1 10 11 miss k\n";
 
-/// What a trace is told to be, explained.
-fn checked(alloc: Global, bytes: &[u8], told: &mut Vec<u8>) -> Option<JudgeEnd> {
-    let known: BuildHasherDefault<FoldHasher> = BuildHasherDefault::new();
-    let mut reader = bytes;
-    match answer_check(alloc, known, Form::Lines, true, &mut reader, told) {
-        Ok(outcome) => Some(JudgeEnd::of_outcome(&outcome)),
-        Err(_) => None,
-    }
-}
-
-/// Whether these bytes are told to be this, explained, and the program ends so.
-fn is_checked(alloc: Global, bytes: &[u8], told: &str, end: JudgeEnd) -> bool {
-    let mut written: Vec<u8> = Vec::new(alloc);
-    let ended = checked(alloc, bytes, &mut written);
-    ended == Some(end) && written.as_slice() == told.as_bytes()
+/// Whether these lines are told of these bytes, explained, and the program ends so.
+fn is_told(alloc: Global, bytes: &[u8], told: &str, end: JudgeEnd) -> bool {
+    is_checked(alloc, bytes, Form::Lines, true, told, end)
 }
 
 /// Whether the trace of a text is accepted.
 fn is_trace_accepted(alloc: Global) -> bool {
     match trace_of(alloc, TEXT) {
-        Some(bytes) => is_checked(alloc, &bytes, "accepted 6 calls\n", JudgeEnd::Done),
+        Some(bytes) => is_told(alloc, &bytes, "accepted 6 calls\n", JudgeEnd::Done),
         None => false,
     }
 }
@@ -248,22 +172,10 @@ the hit of v (position 1) is wrong at place 0 of the certificate: no write of it
 * 1  1  2  6  hit    v   [=]
 ";
 
-/// The trace of a put and its hit, with the two places of its certificate turned.
-fn turned(alloc: Global) -> Option<Vec<u8>> {
-    let mut bytes = trace_of(alloc, "a 1 4 put k v\nb 2 6 hit k v\n")?;
-    let len = bytes.len();
-    if len < 8 {
-        return None;
-    }
-    bytes[len - 5] = 1;
-    bytes[len - 1] = 0;
-    Some(bytes)
-}
-
 /// Whether that trace is told so.
 fn is_turned_explained(alloc: Global) -> bool {
     match turned(alloc) {
-        Some(bytes) => is_checked(alloc, &bytes, TURNED, JudgeEnd::Rejected),
+        Some(bytes) => is_told(alloc, &bytes, TURNED, JudgeEnd::Rejected),
         None => false,
     }
 }
@@ -300,7 +212,7 @@ fn is_no_trace_told(alloc: Global) -> bool {
     let shown = answer_show(alloc, None, &mut reader, &mut told);
     shown == Ok(Shown::BadTrace(TraceFault::BadMagic { at: 7 }))
         && told.as_slice() == NO_TRACE.as_bytes()
-        && is_checked(alloc, b"KGTRACE3", NO_TRACE, JudgeEnd::BadInput)
+        && is_told(alloc, b"KGTRACE3", NO_TRACE, JudgeEnd::BadInput)
 }
 
 #[test]

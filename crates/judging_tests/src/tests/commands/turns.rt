@@ -1,5 +1,6 @@
 // Several files that are judged in turn.
-use judge_run::{Detail, JudgeRequest, Scope, judge_with};
+use super::files::judged_so;
+use judge_run::{Detail, JudgeRequest, Scope};
 use std::alloc::{AllocError, Global};
 use std::fs;
 use std::random::RandomSource;
@@ -8,7 +9,7 @@ use std::test::Fail;
 use trace_file::FileName;
 
 /// Files, and what they hold.
-const FILES: [(&str, &[u8]); 3] = [
+static FILES: [(&str, &[u8]); 3] = [
     ("right.txt", b"a 1 2 put k v\nb 3 4 hit k v\n"),
     (
         "stale.txt",
@@ -26,7 +27,7 @@ struct Turn {
     told: &'static str,
 }
 
-const TURNS: [Turn; 6] = [
+static TURNS: [Turn; 6] = [
     Turn {
         first: "right.txt",
         others: &[],
@@ -104,10 +105,9 @@ fn is_right<R: AllocGlobal + Files + RandomSource>(
     turn: &Turn,
     request: &JudgeRequest,
 ) -> bool {
-    let mut bytes: &[u8] = b"x 1 2 put k v\n";
     let mut out: Vec<u8> = Vec::new(rt.alloc());
     let mut err: Vec<u8> = Vec::new(rt.alloc());
-    let status = judge_with(rt, &mut bytes, request, &mut out, &mut err);
+    let status = judged_so(rt, b"x 1 2 put k v\n", request, &mut out, &mut err);
     status == turn.status && out.as_slice() == turn.told.as_bytes()
 }
 

@@ -1,21 +1,8 @@
 // What is reported of histories whose cache was filled before they begin.
+use super::answers::{CASE, Case, EACH, EVERYTHING, is_as_told};
 use figures::Form;
 use history_text::Reading;
-use judge_run::{Detail, JudgeEnd, Scope, answer_judge};
-use std::alloc::Global;
-use std::hash::{BuildHasherDefault, FoldHasher};
-
-/// A text that is judged so, what is reported of it, and how it ends if an accepted history has to have so many calls.
-#[derive(Clone, Copy)]
-struct Case {
-    text: &'static str,
-    scope: Scope,
-    form: Form,
-    detail: Detail,
-    least: usize,
-    told: &'static str,
-    end: JudgeEnd,
-}
+use judge_run::{JudgeEnd, Scope};
 
 /// Values that were there from the start are taken as such.
 const WARM: Scope = Scope {
@@ -30,12 +17,6 @@ const SKIPPING: Scope = Scope {
         ..Reading::WHOLE
     },
     ..Scope::WHOLE
-};
-
-/// All faults, and why.
-const WHOLE: Detail = Detail {
-    explain: true,
-    all: true,
 };
 
 /// The value v of k was there from the start. It is replaced at 14 and read again at 20. The value x of j was there too.
@@ -55,116 +36,78 @@ the put at 0 (line 1) was not recorded: its value was there from the start, read
 ";
 
 /// Texts, each with what is reported of it, which was worked out by hand.
-const CASES: [Case; 9] = [
+static CASES: [Case; 9] = [
     Case {
         text: STALE,
-        scope: Scope::WHOLE,
-        form: Form::Lines,
-        detail: Detail::NONE,
-        least: 0,
         told: "rejected hit key k lines 1\n",
         end: JudgeEnd::Rejected,
+        ..CASE
     },
     Case {
         text: STALE,
         scope: WARM,
-        form: Form::Lines,
-        detail: WHOLE,
-        least: 0,
+        detail: EVERYTHING,
         told: TOLD,
         end: JudgeEnd::Rejected,
+        ..CASE
     },
     Case {
         text: STALE,
         scope: WARM,
         form: Form::Json,
-        detail: Detail {
-            explain: false,
-            all: true,
-        },
-        least: 0,
+        detail: EACH,
         told: "{\"calls\":4,\"puts\":1,\"removals\":0,\"hits\":3,\"misses\":0,\"values-from-start\":2,\"verdict\":\"rejected\",\"kind\":\"hit\",\"key\":\"k\",\"lines\":[1,2,3],\"from-start-lines\":[1],\"fault-count\":1,\"fault-keys\":1,\"calls-of-fault\":[{\"line\":2,\"kind\":\"put\",\"key\":\"k\",\"start\":10,\"end\":14,\"value\":\"w\"},{\"line\":3,\"kind\":\"hit\",\"key\":\"k\",\"start\":20,\"end\":30,\"value\":\"v\"},{\"from-start-line\":1,\"kind\":\"put\",\"key\":\"k\",\"start\":0,\"end\":0,\"value\":\"v\"}],\"faults\":[{\"kind\":\"hit\",\"key\":\"k\",\"lines\":[1,2,3],\"from-start-lines\":[1],\"late\":6}]}\n",
         end: JudgeEnd::Rejected,
+        ..CASE
     },
     // the put that was added is no call
     Case {
         text: "# first\n\na 5 6 hit k v\nb 7 8 hit k v\n",
         scope: WARM,
-        form: Form::Lines,
-        detail: WHOLE,
+        detail: EVERYTHING,
         least: 3,
         told: "accepted 2 calls\n1 values were taken as there from the start\n",
         end: JudgeEnd::TooFew,
+        ..CASE
     },
     Case {
         text: "a 5 6 hit k v\nb 7 8 hit k v\n",
         scope: WARM,
         form: Form::Json,
-        detail: Detail::NONE,
         least: 2,
         told: "{\"calls\":2,\"puts\":0,\"removals\":0,\"hits\":2,\"misses\":0,\"values-from-start\":1,\"verdict\":\"accepted\"}\n",
-        end: JudgeEnd::Done,
+        ..CASE
     },
     // the removal ended before the hit, unless each stamp may be wrong by 1
     Case {
         text: "a 5 6 remove k\nb 8 9 hit k v\n",
         scope: WARM,
-        form: Form::Lines,
-        detail: Detail::NONE,
-        least: 0,
         told: "rejected hit key k lines 2\n0 values were taken as there from the start\n",
         end: JudgeEnd::Rejected,
+        ..CASE
     },
     Case {
         text: "a 5 6 remove k\nb 8 9 hit k v\n",
         scope: Scope { skew: 1, ..WARM },
-        form: Form::Lines,
-        detail: Detail::NONE,
-        least: 0,
         told: "accepted 2 calls\n1 values were taken as there from the start\n",
-        end: JudgeEnd::Done,
+        ..CASE
     },
     Case {
         text: "a 1 2 put k v\nbad\nb 3 4 hit k v\n",
         scope: SKIPPING,
-        form: Form::Lines,
-        detail: Detail::NONE,
-        least: 0,
         told: "accepted 2 calls\n1 bad lines were passed over\n",
-        end: JudgeEnd::Done,
+        ..CASE
     },
     Case {
         text: "a 1 2 put k v\nbad\n",
         scope: SKIPPING,
         form: Form::Json,
-        detail: Detail::NONE,
         least: 2,
         told: "{\"calls\":1,\"puts\":1,\"removals\":0,\"hits\":0,\"misses\":0,\"bad-lines\":1,\"verdict\":\"accepted\"}\n",
         end: JudgeEnd::TooFew,
+        ..CASE
     },
 ];
-
-/// Whether a case is told as it should be.
-fn is_as_told(alloc: Global, case: &Case) -> bool {
-    let known: BuildHasherDefault<FoldHasher> = BuildHasherDefault::new();
-    let mut told: Vec<u8> = Vec::new(alloc);
-    let mut reader = case.text.as_bytes();
-    match answer_judge(
-        alloc,
-        known,
-        case.form,
-        case.scope,
-        case.detail,
-        &mut reader,
-        &mut told,
-    ) {
-        Ok(outcome) => {
-            told.as_slice() == case.told.as_bytes()
-                && JudgeEnd::at_least(case.least, &outcome) == case.end
-        }
-        Err(_) => false,
-    }
-}
 
 #[test]
 fn what_was_there_from_the_start_is_told(rt: HostRuntime) {

@@ -18,7 +18,7 @@ struct Wrong {
     unread: &'static [u32],
 }
 
-const HISTORIES: [Wrong; 7] = [
+static HISTORIES: [Wrong; 7] = [
     // Nothing.
     Wrong {
         rows: &[(1, 0, 1, Did::Put(1)), (1, 2, 3, Did::Hit(1))],

@@ -7,7 +7,7 @@ use trace_file::History;
 
 /// Histories of one key, each of which has a certificate by one of the five rules and by none of the others, in the order of
 /// the rules.
-const BY_RULE: [&[Row]; 5] = [
+static BY_RULE: [&[Row]; 5] = [
     // By the least growth of the zone.
     &[
         (1, 1, 2, Did::Expiring(2, 3)),
@@ -50,7 +50,7 @@ const BY_RULE: [&[Row]; 5] = [
 ];
 
 /// A history of one key that has an order, which no rule finds: each takes one of the equal puts for both its hits.
-const STUCK: &[Row] = &[
+static STUCK: &[Row] = &[
     (1, 0, 9, Did::Put(1)),
     (1, 0, 9, Did::Put(1)),
     (1, 0, 9, Did::Put(2)),

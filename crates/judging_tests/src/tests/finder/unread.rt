@@ -11,7 +11,7 @@ type Unread = (u32, &'static [(u32, u32)]);
 /// A history, what is found for it, and the hit that can have read none of its puts, if there is one.
 type Doubtful = (&'static [Row], Want, Option<Unread>);
 
-const HISTORIES: [Doubtful; 9] = [
+static HISTORIES: [Doubtful; 9] = [
     // The hit of 1 stands between two hits of 2, which read one put, and it can have read two puts.
     (
         &[

@@ -8,7 +8,7 @@ use trace_file::{ActRef, CallRef};
 /// A history, the hits whose values are taken as there from the start, and what is found then.
 type Begun = (&'static [Row], &'static [u32], Want);
 
-const HISTORIES: [Begun; 15] = [
+static HISTORIES: [Begun; 15] = [
     // Nothing is added where each value was put.
     (
         &[

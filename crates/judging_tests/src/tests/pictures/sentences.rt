@@ -8,7 +8,7 @@ use std::test::Fail;
 use trace_file::Certificate;
 
 /// The sentences, by their numbers.
-const SENTENCES: [&str; 11] = [
+static SENTENCES: [&str; 11] = [
     "put %1B%25 (position 0) ends at 14, before it starts at 0",
     "the hit of %1B%25 (position 2) is of a value that no call puts at its key",
     "the hit of %1B%25 (position 2) came before its put: the hit of %1B%25 (position 2) ended at 18446744073709551615, before put v2 (position 1) started at 16",

@@ -13,7 +13,7 @@ const STALE: &str =
     "the hit of %1B%25 (line 6) is stale: put %1B%25 (line 4) ended at 14, before put v2 (line 5) started at 16, which ended at 21, before the hit started at 25\n* 4  alice   0  14  put    %1B%25  []\n* 5  1      16  21  put    v2        []\n* 6  alice  25   -  hit    %1B%25      [=>\n";
 
 /// Parts of its picture: where the sentence is broken, the label of each of the three calls, and the first and the last time.
-const PARTS: [&str; 6] = [
+static PARTS: [&str; 6] = [
     "before put v2 </tspan>\n<tspan x=\"16\" dy=\"18\">(position 1) started",
     "<text x=\"40\" y=\"64\">position 0: put %1B%25</text>",
     "<text x=\"88\" y=\"82\">position 1: put v2</text>",

@@ -68,7 +68,7 @@ pub(super) fn streamed(alloc: Global, text: &str, scope: Scope, window: u64, lea
 /// A text, whether its cache may have been filled before it, the skew, the window, and what comes of judging it by pieces of one call.
 type Row = (&'static str, bool, u64, u64, End);
 
-const ROWS: [Row; 13] = [
+static ROWS: [Row; 13] = [
     ("", false, 0, 0, End::Accepted),
     // a hit reads a value that was replaced, and whose put was forgotten
     (

@@ -13,7 +13,7 @@ struct KeyWord {
 }
 
 /// Words of a command line.
-const WORDS: [KeyWord; 8] = [
+static WORDS: [KeyWord; 8] = [
     KeyWord {
         word: b"color",
         key: Ok(b"color"),

@@ -11,7 +11,7 @@ struct Row {
 }
 
 /// Each cause once, with the number of its line.
-const BAD: [Row; 36] = [
+static BAD: [Row; 36] = [
     Row {
         text: b"a 1 2 put k v\nb 1 2 put k\tv\n",
         told: b"bad line 2: a line has five to seven words of printable ASCII, separated by single spaces: CALLER START END put|hit|miss|remove KEY [VALUE [TIME]]",

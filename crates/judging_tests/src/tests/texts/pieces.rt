@@ -7,7 +7,7 @@ use std::io::{Error, ErrorKind, Read};
 use trace_file::History;
 
 /// Five calls, a remark and a bad line.
-const TEXT: &[u8] =
+static TEXT: &[u8] =
     b"x 1 2 put k v\n# none\ny 3 - remove k\nbad\nx 5 6 hit k v 7\nz 8 9 miss k\nx 9 9 put k w";
 
 /// What is written of it.
@@ -93,7 +93,7 @@ fn is_right(alloc: Global, few: usize, most: usize, pieces: u32) -> bool {
 }
 
 /// How few bytes come at a time, how many calls a piece has, and how many pieces there are then.
-const PIECES: [(usize, usize, u32); 9] = [
+static PIECES: [(usize, usize, u32); 9] = [
     (1, 1, 6),
     (1, 2, 3),
     (1, 1000, 1),

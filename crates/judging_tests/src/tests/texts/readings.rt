@@ -11,7 +11,7 @@ const SKIPPING: Reading = Reading {
 };
 
 /// A bad line for each cause of its own.
-const BAD: [(&[u8], LineCause); 12] = [
+static BAD: [(&[u8], LineCause); 12] = [
     (b"a 1 2", LineCause::NotWords),
     (b"a x 2 miss k", LineCause::BadStart),
     (b"a 1 x miss k", LineCause::BadEnd),
@@ -121,7 +121,7 @@ fn each_key_is_in_one_share(rt: HostRuntime) {
 }
 
 /// Two calls on each of two keys.
-const TWO_KEYS: &[u8] = b"a 1 2 put k v\nb 3 4 put l w\na 5 6 hit k v\nb 7 8 hit l w\n";
+static TWO_KEYS: &[u8] = b"a 1 2 put k v\nb 3 4 put l w\na 5 6 hit k v\nb 7 8 hit l w\n";
 
 /// How many calls a share of five has of them; none if it has not all calls of some keys, with their callers.
 fn calls_in(alloc: Global, part: u32) -> Option<usize> {

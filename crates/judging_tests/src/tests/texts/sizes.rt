@@ -13,7 +13,7 @@ struct Size {
 }
 
 /// Each length and the next.
-const SIZES: [Size; 11] = [
+static SIZES: [Size; 11] = [
     Size {
         front: b"#",
         piece: b"x",

@@ -10,7 +10,7 @@ use std::io::{Error, ErrorKind, Read, Write};
 use std::test::Fail;
 
 /// Three calls, of which two are written.
-const TEXT: &[u8] = b"x 1 2 put k v\n# none\ny 3 - remove k\nx 5 6 hit k v 7";
+static TEXT: &[u8] = b"x 1 2 put k v\n# none\ny 3 - remove k\nx 5 6 hit k v 7";
 
 /// A reader that gives bytes `x` and never ends.
 #[derive(Drop)]

@@ -152,9 +152,9 @@ fn crowded(head: &[u8], repeated: &[u8], count: u8) -> [u8; 4096]
 }
 
 // A record of key `a` and no value, which expires at 1, and one that never expires.
-const SMALL: [u8; 13] = [1, 0, 0, 6, 0, 0, 0, 0, 0, 0, 0, 1, 0x61];
+static SMALL: [u8; 13] = [1, 0, 0, 6, 0, 0, 0, 0, 0, 0, 0, 1, 0x61];
 
-const LASTING_SMALL: [u8; 5] = [1, 0, 0, 6, 0x61];
+static LASTING_SMALL: [u8; 5] = [1, 0, 0, 6, 0x61];
 
 /// Whether a set page with the head of a row is read with this many records, and no page with one more is.
 fn is_set_limit(row: &[u8], record: &[u8], count: u8) -> bool

@@ -10,34 +10,34 @@ pub type Row = (&'static [u8], &'static [u8], u8);
 pub const EXPIRES: u64 = 0x0102_0304_0506_0708;
 
 /// Key `a`, value `xy`, prediction 6.
-pub const ROW: Row = (b"a", b"xy", 6);
+pub static ROW: Row = (b"a", b"xy", 6);
 
 /// A set page: KSE2, set 3, write 1, one record, which is `ROW` and never expires.
-pub const SET_ROW: [u8; 33] = [
+pub static SET_ROW: [u8; 33] = [
     0x4b, 0x53, 0x45, 0x32, 0, 0, 0, 3, 0, 0, 0, 0, 0, 0, 0, 1, 0, 1, 0x01, 0x00, 0x02, 0x06, 0xff,
     0xff, 0xff, 0xff, 0xff, 0xff, 0xff, 0xff, 0x61, 0x78, 0x79,
 ];
 
 /// The same of a time when set pages had at most 64 records: KSE1, and the record expires at `EXPIRES`.
-pub const FORMER_SET_ROW: [u8; 33] = [
+pub static FORMER_SET_ROW: [u8; 33] = [
     0x4b, 0x53, 0x45, 0x31, 0, 0, 0, 3, 0, 0, 0, 0, 0, 0, 0, 1, 0, 1, 0x01, 0x00, 0x02, 0x06, 0x01,
     0x02, 0x03, 0x04, 0x05, 0x06, 0x07, 0x08, 0x61, 0x78, 0x79,
 ];
 
 /// The same of a time before records had an expiry: KSET, and no expiry.
-pub const LASTING_SET_ROW: [u8; 25] = [
+pub static LASTING_SET_ROW: [u8; 25] = [
     0x4b, 0x53, 0x45, 0x54, 0, 0, 0, 3, 0, 0, 0, 0, 0, 0, 0, 1, 0, 1, 0x01, 0x00, 0x02, 0x06, 0x61,
     0x78, 0x79,
 ];
 
 /// A log page: KLO1, segment 0, page 0, the same record, which expires at `EXPIRES`.
-pub const LOG_ROW: [u8; 31] = [
+pub static LOG_ROW: [u8; 31] = [
     0x4b, 0x4c, 0x4f, 0x31, 0, 0, 0, 0, 0, 0, 0, 0, 0, 0, 0, 1, 0x01, 0x00, 0x02, 0x06, 0x01, 0x02,
     0x03, 0x04, 0x05, 0x06, 0x07, 0x08, 0x61, 0x78, 0x79,
 ];
 
 /// The same of a time before records had an expiry: KLOG, and no expiry.
-pub const LASTING_LOG_ROW: [u8; 23] = [
+pub static LASTING_LOG_ROW: [u8; 23] = [
     0x4b, 0x4c, 0x4f, 0x47, 0, 0, 0, 0, 0, 0, 0, 0, 0, 0, 0, 1, 0x01, 0x00, 0x02, 0x06, 0x61, 0x78,
     0x79,
 ];

@@ -82,9 +82,9 @@ fn one_record_is_written_by_a_writer(rt: HostRuntime) -> Result<(), Fail> {
     Ok(())
 }
 
-const FULL: Row = (b"a", &[0x78; 225], 0);
+static FULL: Row = (b"a", &[0x78; 225], 0);
 
-const ABOVE: Row = (b"a", &[0x78; 226], 0);
+static ABOVE: Row = (b"a", &[0x78; 226], 0);
 
 /// Whether a page of 256 bytes is full with this record: it ends with the record's last byte.
 fn fills_a_page(record: &Record) -> bool {
@@ -103,9 +103,9 @@ fn a_small_page_has_its_room(rt: HostRuntime) -> Result<(), Fail> {
     Ok(())
 }
 
-const HALF: Row = (b"a", &[0x78; 2026], 6);
+static HALF: Row = (b"a", &[0x78; 2026], 6);
 
-const MORE_THAN_HALF: Row = (b"b", &[0x79; 2027], 6);
+static MORE_THAN_HALF: Row = (b"b", &[0x79; 2027], 6);
 
 /// Whether two records are all of a log page of 4,096 bytes, and its last two bytes are zeros.
 fn fill_a_large_page(first: &Record, second: &Record) -> bool {

@@ -81,20 +81,20 @@ fn a_page_is_read_back_through_the_trait(rt: HostRuntime) -> Result<(), Fail> {
     Ok(())
 }
 
-const SECOND_IS_REFUSED: [Step; 4] = [
+static SECOND_IS_REFUSED: [Step; 4] = [
     Step::Write(0, 7),
     Step::NoWrite(1, 8),
     Step::Read(0, 7),
     Step::Read(1, 0),
 ];
 
-const SECOND_IS_THE_LAST: [Step; 3] = [Step::Write(0, 7), Step::NoWrite(1, 8), Step::NoRead(0)];
+static SECOND_IS_THE_LAST: [Step; 3] = [Step::Write(0, 7), Step::NoWrite(1, 8), Step::NoRead(0)];
 
-const NONE_IS_REFUSED: [Step; 2] = [Step::Write(0, 7), Step::Read(0, 7)];
+static NONE_IS_REFUSED: [Step; 2] = [Step::Write(0, 7), Step::Read(0, 7)];
 
-const ALL_ARE_REFUSED: [Step; 2] = [Step::NoWrite(0, 7), Step::NoRead(0)];
+static ALL_ARE_REFUSED: [Step; 2] = [Step::NoWrite(0, 7), Step::NoRead(0)];
 
-const THIRD_IS_MADE_AGAIN: [Step; 4] = [
+static THIRD_IS_MADE_AGAIN: [Step; 4] = [
     Step::Write(0, 7),
     Step::Read(0, 7),
     Step::NoRead(0),

@@ -1,8 +1,6 @@
 //! An index with a few entries, by each of its calls.
 ghost use Rattle.std.specs.Prelude.{◌≡◌, ◌<◌, ◌≤◌};
 
-mod compared;
-mod plain_index;
 mod which;
 mod whole;
 
@@ -341,7 +339,7 @@ const LOWERED_TO_0: [Step; 6] = [
 #[derive(Clone, Copy)]
 struct Case(u8, &'static [Step]);
 
-const CASES: [Case; 6] = [
+static CASES: [Case; 6] = [
     // entries stand newest first and are dropped by kind
     Case(3, &OF_TWO),
     // a page is dropped

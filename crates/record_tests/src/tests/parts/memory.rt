@@ -157,7 +157,7 @@ fn the_pair_that_was_used_longest_ago_leaves(rt: HostRuntime) -> Result<(), Fail
     Ok(())
 }
 
-const RAISED: [Step; 9] = [
+static RAISED: [Step; 9] = [
     Step::Put(b"a", b"1", None),
     Step::Put(b"b", b"2", None),
     Step::Ask(Call::Raise, b"z", None),

@@ -7,7 +7,7 @@ use std::test::Fail;
 #[derive(Clone, Copy)]
 struct Vector(&'static [u8], u64);
 
-const VECTORS: [Vector; 4] = [
+static VECTORS: [Vector; 4] = [
     Vector(b"", 0xcbf29ce484222325),
     Vector(b"a", 0xaf63dc4c8601ec8c),
     Vector(b"b", 0xaf63df4c8601f1a5),

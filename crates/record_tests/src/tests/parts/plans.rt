@@ -27,7 +27,7 @@ const SMALLER_BEHIND: [Row; 3] = [
 const ALL_FIT: [Row; 2] = [(7, 2, false, false), (7, 4, false, false)];
 
 /// The promoted item is farther than the other old one, and a hit of a fresh item counts for nothing.
-const PROMOTED_FROM_AFAR: [Row; 3] = [
+static PROMOTED_FROM_AFAR: [Row; 3] = [
     (7, 6, true, false),
     (7, 3, false, false),
     (7, 5, true, true),
@@ -146,7 +146,7 @@ fn planned(alloc: Global, by: By, job: &Job) -> Result<Plan, AllocError> {
 #[derive(Clone, Copy)]
 struct Case(&'static [Row], &'static [u8], By, &'static [(usize, u8)]);
 
-const CASES: [Case; 4] = [
+static CASES: [Case; 4] = [
     // fresh items are kept first
     Case(
         &FIVE,

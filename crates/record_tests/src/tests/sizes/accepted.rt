@@ -12,7 +12,7 @@ struct Row {
     objects: [u64; 4],
 }
 
-const ROWS: [Row; 13] = [
+static ROWS: [Row; 13] = [
     // 12 GiB and 1 GiB for objects of 100 bytes and 8 threads: 128 lanes of 96 MiB.
     Row {
         sizes: (12_884_901_888, 1_073_741_824, 100, 8),

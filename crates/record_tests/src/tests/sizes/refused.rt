@@ -3,7 +3,7 @@ use super::rows::{Sizes, wanted};
 use cache_sizes::{Shape, SizeFault};
 use std::test::Fail;
 
-const REFUSED: [(Sizes, SizeFault); 16] = [
+static REFUSED: [(Sizes, SizeFault); 16] = [
     // Too little flash for three pages.
     ((12_287, 1_000_000, 100, 1), SizeFault::FlashTooSmall),
     // More flash than 1,024 shards have sets for.
@@ -39,7 +39,7 @@ const REFUSED: [(Sizes, SizeFault); 16] = [
 ];
 
 // The first nine again, each with what it lacked, or without what was too much.
-const JUST_ACCEPTED: [Sizes; 8] = [
+static JUST_ACCEPTED: [Sizes; 8] = [
     (12_288, 1_000_000, 100, 1),
     (4_629_452_005_375, 1_125_899_906_842_624, 100, 1),
     (12_288, 1_000_000, 1, 1),

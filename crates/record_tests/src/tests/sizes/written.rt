@@ -11,7 +11,7 @@ fn are_met(shape: &Shape, rows: &[Row]) -> bool {
 }
 
 // More bytes than an object can have count as the most.
-const OF_THE_GREATEST: [Row; 3] = [
+static OF_THE_GREATEST: [Row; 3] = [
     (
         0,
         [5_497_558_138_880, 508_785_852_416, 3_944_759_689_216],
@@ -51,7 +51,7 @@ fn the_greatest_shape_has_its_sizes(rt: HostRuntime) {
 }
 
 // The log has room for 72 objects, and entries for 8.
-const OF_A_SMALL_ONE: [Row; 1] = [(100, [24_576, 25_644, 26_844], [4, 8, 133, 145])];
+static OF_A_SMALL_ONE: [Row; 1] = [(100, [24_576, 25_644, 26_844], [4, 8, 133, 145])];
 
 #[test]
 fn a_log_holds_as_many_as_its_index(rt: HostRuntime) {

@@ -25,7 +25,7 @@ pub struct Tally {
     pub refused: u64,
 }
 
-pub const NONE: Tally = Tally {
+pub static NONE: Tally = Tally {
     memory: 0,
     log: 0,
     set: 0,
@@ -57,7 +57,7 @@ struct Version {
     expires: u64,
 }
 
-const NO_VERSION: Version = Version {
+static NO_VERSION: Version = Version {
     number: 0,
     expires: NEVER,
 };

@@ -29,7 +29,7 @@ const OPENS: Row = Row {
 };
 
 // Each refusal while all that are tested after it apply too.
-const ROWS: [Row; 8] = [
+static ROWS: [Row; 8] = [
     OPENS,
     Row {
         config: NO_SET,

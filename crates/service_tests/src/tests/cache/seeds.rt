@@ -6,19 +6,19 @@ use super::*;
 use service_lane::Counter;
 
 // Four lanes in which all is small.
-const FOUR: Config = Config { lanes: 4, ..SMALL };
+static FOUR: Config = Config { lanes: 4, ..SMALL };
 
 // One lane that admits every second object to flash.
-const HALF: Config = Config {
+static HALF: Config = Config {
     admit: 32_768,
     ..ALONE
 };
 
 // One that admits none.
-const NONE_ADMITTED: Config = Config { admit: 0, ..ALONE };
+static NONE_ADMITTED: Config = Config { admit: 0, ..ALONE };
 
 // One that moves no fewer than 32 objects to a set.
-const STRICT: Config = Config {
+static STRICT: Config = Config {
     threshold: 32,
     ..ALONE
 };

@@ -170,7 +170,7 @@ fn holds<
 }
 
 /// Two shards of the small lanes.
-pub const TWO_SHARDS: Numbers = Numbers {
+pub static TWO_SHARDS: Numbers = Numbers {
     config: SMALL,
     shards: 2,
     slots: 1_000,

@@ -152,7 +152,7 @@ fn tends(lane: &mut CLane, did: u32, asked_device: u32, is_due: u32) -> bool {
 }
 
 // A hit that no call tells.
-const NO_HIT: Hit = Hit {
+static NO_HIT: Hit = Hit {
     length: 77,
     expires: 77,
     tier: 77,

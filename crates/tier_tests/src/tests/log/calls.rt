@@ -3,7 +3,7 @@ use super::*;
 use test_devices::{DeviceCall, PlannedDevice};
 
 // One lane of one set, and two segments of two pages: pages 1 and 2 are the first segment's.
-const TWO_PAGES: Config = Config {
+static TWO_PAGES: Config = Config {
     segment_pages: 2,
     ..ONE_SET
 };
@@ -31,7 +31,7 @@ const B_TAKEN: Kept = Kept {
 // Two records fill a page each. They are looked up while they lie in the filling buffer and in the flushing one, and on
 // the device; then they are taken, readmitted, found in the buffer again, struck and freed. The pages that they were readmitted
 // to are written all the same.
-const STEPS: [Step; 22] = [
+static STEPS: [Step; 22] = [
     Step::Append(b"ax", &[1; 200], ADDED),
     Step::Append(b"bx", &[2; 200], ADDED),
     Step::Look(b"ax", A),
@@ -58,7 +58,7 @@ const STEPS: [Step; 22] = [
 
 // Two writes by flushing; a read by each look-up on the device; two by the taking, newest first; one by each readmission; and the
 // writes of two pages on which nothing is live.
-const PLAN: [DeviceCall; 10] = [
+static PLAN: [DeviceCall; 10] = [
     DeviceCall::Write(1),
     DeviceCall::Write(2),
     DeviceCall::Read(1),
@@ -83,7 +83,7 @@ const ONE_TAG: [Step; 8] = [
     Step::Look(b"c", WantedLook::Absent),
 ];
 
-const ONE_TAG_PLAN: [DeviceCall; 7] = [
+static ONE_TAG_PLAN: [DeviceCall; 7] = [
     DeviceCall::Write(1),
     DeviceCall::Write(2),
     DeviceCall::Read(2),

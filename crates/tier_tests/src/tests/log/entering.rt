@@ -1,7 +1,7 @@
 //! What enters the log: what is found of it, and what is refused.
 use super::*;
 
-const FOUND_UNTIL_STRUCK: [Step; 16] = [
+static FOUND_UNTIL_STRUCK: [Step; 16] = [
     Step::Append(b"ax", b"1", ADDED),
     Step::NoSegment,
     Step::Look(b"ax", WantedLook::Value(b"1")),
@@ -28,7 +28,7 @@ fn a_record_is_found_in_memory_and_on_the_device_until_it_is_struck(
     on_sound(&rt, rt.alloc(), &FOUND_UNTIL_STRUCK)
 }
 
-const NO_BUFFER_HAS_ROOM: [Step; 6] = [
+static NO_BUFFER_HAS_ROOM: [Step; 6] = [
     Step::Append(b"ax", &[1; 200], ADDED),
     Step::Append(b"bx", &[2; 200], ADDED),
     Step::Append(b"cx", &[3; 200], Some(Appended::Full)),
@@ -38,7 +38,7 @@ const NO_BUFFER_HAS_ROOM: [Step; 6] = [
     Step::Append(b"cx", b"3", ADDED),
 ];
 
-const THE_INDEX_IS_FULL: [Step; 3] = [
+static THE_INDEX_IS_FULL: [Step; 3] = [
     Step::Append(b"ax", b"1", ADDED),
     Step::Append(b"bx", b"2", Some(Appended::IndexFull)),
     Step::Look(b"bx", WantedLook::Absent),
@@ -60,7 +60,7 @@ fn a_record_past_the_last_entry_is_refused(rt: HostRuntime) -> Result<(), Fail> 
     on(&rt, rt.alloc(), &ONE_ENTRY, ALL_REFUSED, &THE_INDEX_IS_FULL)
 }
 
-const JUST_A_PAGES_ROOM: [Step; 6] = [
+static JUST_A_PAGES_ROOM: [Step; 6] = [
     Step::Append(b"ax", &[7; 225], None),
     Step::Append(b"ax", &[7; 224], ADDED),
     SEAL,
@@ -75,7 +75,7 @@ fn a_record_of_just_a_pages_room_is_found_after_a_flush(rt: HostRuntime) -> Resu
 }
 
 // The hashes of "a" and "b" differ below the high 16 bits alone.
-const TWO_KEYS_OF_ONE_TAG: [Step; 14] = [
+static TWO_KEYS_OF_ONE_TAG: [Step; 14] = [
     Step::Append(b"a", b"1", ADDED),
     Step::Append(b"b", b"2", ADDED),
     SEAL,

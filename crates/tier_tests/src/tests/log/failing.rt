@@ -139,7 +139,7 @@ const TAKES_BOTH: Step = Step::Take(&[B, A]);
 const TAKES_BOTH_UNREAD: Step = Step::Take(&[B, A_UNREAD]);
 
 // What comes if each call of the device is refused alone, and if it is refused with all later ones.
-const REFUSED: [(&[Step], &[Step]); 7] = [
+static REFUSED: [(&[Step], &[Step]); 7] = [
     (&UNWRITTEN, &UNWRITTEN),
     (&UNREAD, &UNREAD_FOR_GOOD),
     (&UNTAKEN, &UNTAKEN),

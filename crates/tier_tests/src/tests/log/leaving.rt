@@ -4,7 +4,7 @@ ghost use Rattle.record_pages.specs.Sizes.{IsPageSize};
 use super::retried::{append, take};
 use super::*;
 
-const TAKEN_FROM_MEMORY: [Step; 4] = [
+static TAKEN_FROM_MEMORY: [Step; 4] = [
     Step::Append(b"ax", b"1", ADDED),
     Step::Append(b"bx", b"2", ADDED),
     Step::Look(b"ax", WantedLook::Value(b"1")),
@@ -88,7 +88,7 @@ const THE_THIRD_ALONE: [Step; 4] = [
     Step::Look(b"cx", WantedLook::Value(b"3")),
 ];
 
-const ALONE: Dropping = Dropping {
+static ALONE: Dropping = Dropping {
     before: &TWO_IN_MEMORY,
     between: &A_THIRD,
     behind: &THE_THIRD_ALONE,
@@ -134,7 +134,7 @@ const STAYS: [Step; 2] = [
     }]),
 ];
 
-const AT_ONE_PLACE: Dropping = Dropping {
+static AT_ONE_PLACE: Dropping = Dropping {
     before: &IN_SEGMENT_0,
     between: &IN_SEGMENT_4,
     behind: &STAYS,
@@ -148,7 +148,7 @@ fn a_later_record_at_the_place_of_a_taken_one_stays(rt: HostRuntime) -> Result<(
 type Wide = FuseDevice<MemoryDevice<4096>>;
 
 // Segments of two pages.
-const TWO_PAGES: Config = Config {
+static TWO_PAGES: Config = Config {
     lanes: 1,
     sets: 1,
     memory: 1,
@@ -160,7 +160,7 @@ const TWO_PAGES: Config = Config {
 };
 
 // The second page is lost, and with it one record.
-const LOSES_THE_SECOND_PAGE: [Step; 7] = [
+static LOSES_THE_SECOND_PAGE: [Step; 7] = [
     SEAL,
     WRITE,
     Step::Flush(Flushed::PageLost),
@@ -235,7 +235,7 @@ fn a_page_has_64_records_and_a_taking_32(rt: HostRuntime) -> Result<(), Fail> {
     fills_two_pages(&rt, rt.alloc(), &mut wide_log(rt.alloc())?)
 }
 
-const READMITTED_OR_LOST: [Step; 14] = [
+static READMITTED_OR_LOST: [Step; 14] = [
     Step::Append(b"ax", &[1; 100], ADDED),
     Step::Append(b"bx", &[2; 100], ADDED),
     SEAL,
@@ -276,7 +276,7 @@ fn a_readmitted_record_is_the_newest_or_it_is_lost(rt: HostRuntime) -> Result<()
     on_sound(&rt, rt.alloc(), &READMITTED_OR_LOST)
 }
 
-const READMITTED_FROM_A_LOST_PAGE: [Step; 9] = [
+static READMITTED_FROM_A_LOST_PAGE: [Step; 9] = [
     Step::Append(b"ax", &[1; 100], ADDED),
     Step::Append(b"bx", &[2; 100], ADDED),
     SEAL,
@@ -288,7 +288,7 @@ const READMITTED_FROM_A_LOST_PAGE: [Step; 9] = [
     Step::Look(b"bx", WantedLook::Absent),
 ];
 
-const TAKEN_FROM_A_LOST_PAGE: [Step; 6] = [
+static TAKEN_FROM_A_LOST_PAGE: [Step; 6] = [
     Step::Append(b"ax", &[1; 100], ADDED),
     Step::Append(b"bx", &[2; 100], ADDED),
     SEAL,

@@ -21,7 +21,7 @@ const NEW_B: Step = Step::Locate(b"bx", SECOND, 6, b"");
 const TOUCHED_A: Step = Step::Locate(b"ax", FIRST, 5, b"1");
 
 // The second call of the device is refused, which is the first search on the page.
-const IN_BUFFERS_AND_ON_THE_PAGE: [Step; 23] = [
+static IN_BUFFERS_AND_ON_THE_PAGE: [Step; 23] = [
     Step::Append(b"ax", b"1", ADDED),
     Step::Append(b"bx", b"", ADDED),
     NEW_A,
@@ -75,7 +75,7 @@ fn a_lost_page_leaves_the_buffer(rt: HostRuntime) -> Result<(), Fail> {
 }
 
 // Two sets, and two segments of two pages.
-const TWO_OF_EACH: Config = Config {
+static TWO_OF_EACH: Config = Config {
     segment_pages: 2,
     ..TWO_SETS
 };
@@ -114,7 +114,7 @@ const AX: Step = Step::Locate(b"ax", SECOND_THERE, 6, b"5");
 const BX: Step = Step::Locate(b"bx", THIRD_THERE, 6, b"6");
 
 // `aaa` and `aac` have one tag and set 0, `aab` and `aad` that tag and set 1, and `ax` and `bx` other tags, sets 0 and 1.
-const EACH_ALONE: [Step; 45] = [
+static EACH_ALONE: [Step; 45] = [
     Step::Append(b"aaa", b"1", ADDED),
     Step::Append(b"aac", b"2", ADDED),
     Step::Append(b"aab", FULL, ADDED),

@@ -2,7 +2,7 @@
 use super::*;
 
 // One lane of one set, and two segments of two pages.
-const TWO_PAGES: Config = Config {
+static TWO_PAGES: Config = Config {
     segment_pages: 2,
     ..ONE_SET
 };
@@ -86,7 +86,7 @@ const WHOLE: [Step; 14] = [
 
 // What comes if each call of the device is refused alone, and if it is refused with all later ones. A taking loses
 // the page of one record, and the readmission after it that of the other.
-const REFUSED: [(&[Step], &[Step]); 9] = [
+static REFUSED: [(&[Step], &[Step]); 9] = [
     (
         &[
             ADD_A, ADD_B, SEAL, LOSE, WRITE, NO_A, B, TAKE_B, MOVE, NONE, END, NO_A, B, FREE,

@@ -23,7 +23,7 @@ pub fn told_by(oldest: Oldest) -> Told {
     }
 }
 
-const ONE_BY_ONE: [Step; 21] = [
+static ONE_BY_ONE: [Step; 21] = [
     Step::Append(b"ax", b"1", ADDED),
     Step::Append(b"bx", b"2", ADDED),
     Step::Append(b"cx", b"3", ADDED),
@@ -53,7 +53,7 @@ fn entries_of_some_sets_are_passed_over(rt: HostRuntime) -> Result<(), Fail> {
 }
 
 // An entry of a younger segment is not told of, if all of the oldest one are passed over.
-const IN_TWO_SEGMENTS: [Step; 8] = [
+static IN_TWO_SEGMENTS: [Step; 8] = [
     Step::Append(b"ax", b"1", ADDED),
     SEAL,
     WRITE,

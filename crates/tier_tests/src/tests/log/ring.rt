@@ -1,7 +1,7 @@
 //! The segments of the device, used again and again.
 use super::*;
 
-const WAITS: [Step; 18] = [
+static WAITS: [Step; 18] = [
     Step::Append(b"ax", b"1", ADDED),
     SEAL,
     WRITE,
@@ -47,7 +47,7 @@ struct Round {
 
 // Once there are two segments on the device the oldest one is freed; its live records are readmitted before, and in each fourth
 // round they are dropped, and then their keys have no value.
-const FIFTEEN_ROUNDS: [Round; 15] = [
+static FIFTEEN_ROUNDS: [Round; 15] = [
     Round {
         key: b"ax",
         value: b"0",

@@ -8,7 +8,7 @@ use test_devices::{DeviceCall, PlannedDevice};
 const ONLY_AX: [Pair; 1] = [(b"ax", b"1")];
 
 // The set of ax is empty, written, looked up and read, and empty once more by a forgetting.
-const STEPS: [Step; 19] = [
+static STEPS: [Step; 19] = [
     MISSES_A,
     Step::Locate(b"ax", LocatedInSet::Absent, WAS_HELD),
     Step::Read(&[]),
@@ -38,7 +38,7 @@ const STEPS: [Step; 19] = [
 ];
 
 // The reading after the strike asks for the page, which may hold other records than the one that was struck.
-const PLAN: [DeviceCall; 7] = [
+static PLAN: [DeviceCall; 7] = [
     DeviceCall::Write(3),
     DeviceCall::Read(3),
     DeviceCall::Read(3),

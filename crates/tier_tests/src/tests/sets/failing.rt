@@ -21,7 +21,7 @@ const FAULT_OF_B: Step = Step::Look(b"bx", WantedLook::Fault);
 const MISSES_B: Step = Step::Look(b"bx", WantedLook::Absent);
 
 // What the calls give if one call of the device is refused, from the first to the sixth.
-const ALONE: [&[Step]; 6] = [
+static ALONE: [&[Step]; 6] = [
     &[FORGETS, MISSES_A, READS_NONE, WRITES, FINDS_B, READS_B_HIT],
     &[WRITES, FAULT_OF_A, READS, WRITES, FINDS_B, READS_B_HIT],
     &[WRITES, FINDS_A, READ_LOST, WRITES, FINDS_B, READS_B_HIT],
@@ -31,7 +31,7 @@ const ALONE: [&[Step]; 6] = [
 ];
 
 // The same if all calls from one on are refused.
-const FOR_GOOD: [&[Step]; 6] = [
+static FOR_GOOD: [&[Step]; 6] = [
     &[FORGETS, MISSES_A, READS_NONE, FORGETS, MISSES_B, READS_NONE],
     &[WRITES, FAULT_OF_A, READ_LOST, FORGETS, MISSES_B, READS_NONE],
     &[WRITES, FINDS_A, READ_LOST, FORGETS, MISSES_B, READS_NONE],
@@ -74,7 +74,7 @@ fn refused_memory_changes_nothing(rt: HostRuntime) -> Result<(), Fail> {
     on(&rt, rt.alloc(), &SOUND, &WHOLE)
 }
 
-const DAMAGED: [Step; 4] = [
+static DAMAGED: [Step; 4] = [
     WRITES,
     Step::Look(b"ax", WantedLook::Damaged),
     READ_LOST,

@@ -2,7 +2,7 @@
 use super::retried::{EXPIRES, read, rewrite};
 use super::*;
 
-const FOUND_UNTIL_STRUCK: [Step; 11] = [
+static FOUND_UNTIL_STRUCK: [Step; 11] = [
     WRITES,
     FINDS_A,
     // What has expired is no hit.
@@ -47,7 +47,7 @@ const SECOND: Listed = Listed {
     hit: false,
 };
 
-const THE_FIRST_OF_TWO: [Step; 6] = [
+static THE_FIRST_OF_TWO: [Step; 6] = [
     Step::Rewrite(&TWO_OF_ONE_KEY, Rewritten::Written),
     Step::Locate(
         b"cd",
@@ -83,7 +83,7 @@ fn full(alloc: Global) -> Result<Vec<Pair>, Fail> {
     Ok(pairs)
 }
 
-const FINDS_THE_LAST: [Step; 1] = [Step::Look(b"b", WantedLook::Value(b""))];
+static FINDS_THE_LAST: [Step; 1] = [Step::Look(b"b", WantedLook::Value(b""))];
 
 // Whether these are as many records as a set page may have, of which the last alone is hit.
 fn is_last_alone_hit(read: SetRead) -> bool {

@@ -27,7 +27,7 @@ const LOCATES_B: Step = Step::Locate(
 );
 
 // The second call of the device is refused, which is the first that locates.
-const ON_THE_PAGE: [Step; 14] = [
+static ON_THE_PAGE: [Step; 14] = [
     WRITES,
     Step::Locate(b"ax", Fault, WAS_HELD),
     Step::LocateLate(b"bx"),

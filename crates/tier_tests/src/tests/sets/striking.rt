@@ -51,7 +51,7 @@ const STRIKE_H: Step = Step::Strike(b"hx");
 
 const WRITE_ELEVEN: Step = Step::Rewrite(&ELEVEN, Rewritten::Written);
 
-const THE_NINTH: [Step; 15] = [
+static THE_NINTH: [Step; 15] = [
     WRITE_ELEVEN,
     STRIKE_A,
     STRIKE_B,
@@ -79,7 +79,7 @@ fn the_ninth_strike_forgets_the_set(rt: HostRuntime) -> Result<(), Fail> {
 // that they may be there.
 const STRANGER: &[u8] = &[0, 2];
 
-const THE_NINTH_AFTER_A_STRANGER: [Step; 12] = [
+static THE_NINTH_AFTER_A_STRANGER: [Step; 12] = [
     WRITE_ELEVEN,
     Step::Strike(STRANGER),
     STRIKE_A,
@@ -110,7 +110,7 @@ const ONLY_A_IN_B: Step = Step::ReadOf(b"bx", &[AX]);
 const NONE_IN_A: Step = Step::ReadOf(b"ax", &[]);
 
 // The sets of ax and of bx differ, and each has both records. There is room for one strike in all.
-const WITH_ONE_PLACE: [Step; 16] = [
+static WITH_ONE_PLACE: [Step; 16] = [
     WRITE_A,
     WRITE_B,
     STRIKE_A,
@@ -133,7 +133,7 @@ const WITH_ONE_PLACE: [Step; 16] = [
 ];
 
 // A set that is forgotten gives its place back.
-const AFTER_A_FORGETTING: [Step; 7] = [
+static AFTER_A_FORGETTING: [Step; 7] = [
     WRITE_A,
     WRITE_B,
     STRIKE_A,
@@ -144,7 +144,7 @@ const AFTER_A_FORGETTING: [Step; 7] = [
 ];
 
 // Five sets with room for one strike.
-const ONE_PLACE: Opened = Opened {
+static ONE_PLACE: Opened = Opened {
     config: FIVE_SETS,
     room: Room::One,
     refused: NONE_REFUSED,

@@ -46,7 +46,7 @@ fn empty(index: &mut LogIndex) {
 }
 
 // The first entry, and what the last set has.
-const FILLED: [Look; 5] = [
+static FILLED: [Look; 5] = [
     Look::Len(1048576, false),
     Look::Oldest(Some(Seen(0, 5, 0, 0, 0, 6))),
     Look::Count(65535, 16),

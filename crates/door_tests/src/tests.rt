@@ -1,0 +1,4 @@
+mod recorded;
+mod screen;
+mod script_runs;
+mod serving;

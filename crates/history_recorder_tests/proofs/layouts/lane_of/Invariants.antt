@@ -1,6 +1,0 @@
-use Rattle.std.proofs.Common.{◌≡◌, length}
-use Rattle.history_recorder_tests.proofs.Rising.{RisesTo}
-use Rattle.history_recorder_tests.proofs.layouts.lane_of.Given as goal
-
-abbrev pub invariant-loop-put : goal.invariant-loop-put
-invariant-loop-put l = RisesTo l.lane l.last × (length l.lane ≡ l.put-index)

@@ -1,6 +1,0 @@
--- As many devices as lanes so far, each of this many pages.
-use Rattle.std.proofs.Common.{◌≡◌, All, length}
-use Rattle.load_run_tests.proofs.tests.seen.Seen.devices.Given as goal
-
-abbrev pub invariant-loop-lane : goal.invariant-loop-lane
-invariant-loop-lane l = (length l.devices.items ≡ l.lane) × All (λ d. length d.pages ≡ l.pages) l.devices.items

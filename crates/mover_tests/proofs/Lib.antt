@@ -1,5 +1,0 @@
-mod PutRow
-mod Struck
-mod OthersRow
-mod AbsentRow
-mod PutBackRow

@@ -1,8 +1,0 @@
--- What the device counted if a page was not written.
-use Rattle.mover_tests.proofs.OthersRow.{forgotten_failed}
-use Rattle.mover_tests.proofs.tests.rows.a_forgotten_commit_has_failed.Goals as goal
-
-pub returns : goal.returns
-returns g c is =
-    let d = g.D.PageDevice in
-    forgotten_failed (d.failures c.args.store.now.device) (d.failures c.move_commit.new.self.device) c.move_commit.result c.move_commit.ensures.faults is

@@ -1,0 +1,3 @@
+mod BookRows
+mod FinishRow
+mod Rising

@@ -1,2 +1,0 @@
-mod CommandRows
-mod ReaderRows

@@ -1,2 +1,0 @@
-mod BookRows
-mod FinishRow

@@ -1,2 +1,0 @@
-mod RowLaws
-mod VerdictLaws
