@@ -23,6 +23,14 @@ use Rattle.command_line.specs.declared.line_fault.LineFault.TheVariants.{Usage, 
 
 -- ---- what the program takes
 
+-- the flag of this name
+abbrev pub flag_rule : Text → Rule
+flag_rule name = record (new_rule name) { long = Some name; action = Some SetTrue }
+
+-- the option of this name, with one value
+abbrev pub value_rule : Text → Rule
+value_rule name = record (new_rule name) { long = Some name; value_names = 1 }
+
 -- the file that is to be checked
 abbrev pub file_rule : Rule
 file_rule = record (new_rule (codes "FILE")) { required = true }
@@ -33,23 +41,23 @@ files_rule = record (new_rule (codes "FILE")) { range = Some (record { start_inc
 
 -- the option of a setting: its name, and one value
 abbrev pub option_rule : Setting → Rule
-option_rule setting = record (new_rule (row_of setting).name) { long = Some (row_of setting).name; value_names = 1 }
+option_rule setting = value_rule (row_of setting).name
 
 -- the folder of the lanes' files
 abbrev pub device_rule : Rule
-device_rule = record (new_rule (codes "device")) { long = Some (codes "device"); value_names = 1 }
+device_rule = value_rule (codes "device")
 
 -- the option of a size: its name, and one value
 abbrev pub size_rule : SizeSetting → Rule
-size_rule size = record (new_rule (name_of size)) { long = Some (name_of size); value_names = 1 }
+size_rule size = value_rule (name_of size)
 
 -- whether keys are drawn by Zipf's law
 abbrev pub zipf_rule : Rule
-zipf_rule = record (new_rule (codes "zipf")) { long = Some (codes "zipf"); action = Some SetTrue }
+zipf_rule = flag_rule (codes "zipf")
 
 -- the file that the trace of a run is written to
 abbrev pub trace_rule : Rule
-trace_rule = record (new_rule (codes "trace")) { long = Some (codes "trace"); value_names = 1; required = true }
+trace_rule = record (value_rule (codes "trace")) { required = true }
 
 -- script, with nothing after it
 abbrev pub script_command : App
@@ -57,55 +65,55 @@ script_command = new_app (codes "script")
 
 -- whether it is said why a history is rejected
 abbrev pub explain_rule : Rule
-explain_rule = record (new_rule (codes "explain")) { long = Some (codes "explain"); action = Some SetTrue }
+explain_rule = flag_rule (codes "explain")
 
 -- whether all faults of a rejected history are listed
 abbrev pub all_rule : Rule
-all_rule = record (new_rule (codes "all")) { long = Some (codes "all"); action = Some SetTrue }
+all_rule = flag_rule (codes "all")
 
 -- whether what is reported is a JSON object and not lines
 abbrev pub json_rule : Rule
-json_rule = record (new_rule (codes "json")) { long = Some (codes "json"); action = Some SetTrue }
+json_rule = flag_rule (codes "json")
 
 -- the file that a picture of why it is rejected is drawn to
 abbrev pub picture_rule : Rule
-picture_rule = record (new_rule (codes "picture")) { long = Some (codes "picture"); value_names = 1 }
+picture_rule = value_rule (codes "picture")
 
 -- the file that an accepted history is written to as a trace
 abbrev pub out_rule : Rule
-out_rule = record (new_rule (codes "trace")) { long = Some (codes "trace"); value_names = 1 }
+out_rule = value_rule (codes "trace")
 
 -- the file that what came of judging is written to, as JUnit has it
 abbrev pub junit_rule : Rule
-junit_rule = record (new_rule (codes "junit")) { long = Some (codes "junit"); value_names = 1 }
+junit_rule = value_rule (codes "junit")
 
 -- how many calls an accepted history has to have
 abbrev pub least_rule : Rule
-least_rule = record (new_rule (codes "at-least")) { long = Some (codes "at-least"); value_names = 1 }
+least_rule = value_rule (codes "at-least")
 
 -- by how much each stamp may differ from the truth
 abbrev pub skew_rule : Rule
-skew_rule = record (new_rule (codes "skew")) { long = Some (codes "skew"); value_names = 1 }
+skew_rule = value_rule (codes "skew")
 
 -- whether values that were there from the start are taken as such
 abbrev pub warm_rule : Rule
-warm_rule = record (new_rule (codes "warm")) { long = Some (codes "warm"); action = Some SetTrue }
+warm_rule = flag_rule (codes "warm")
 
 -- which keys' calls are judged
 abbrev pub keys_rule : Rule
-keys_rule = record (new_rule (codes "keys")) { long = Some (codes "keys"); value_names = 1 }
+keys_rule = value_rule (codes "keys")
 
 -- how far back a call may start, if the calls are judged as they come
 abbrev pub window_rule : Rule
-window_rule = record (new_rule (codes "window")) { long = Some (codes "window"); value_names = 1 }
+window_rule = value_rule (codes "window")
 
 -- whether bad lines are passed over
 abbrev pub skip_rule : Rule
-skip_rule = record (new_rule (codes "skip-bad")) { long = Some (codes "skip-bad"); action = Some SetTrue }
+skip_rule = flag_rule (codes "skip-bad")
 
 -- the key whose calls alone are written
 abbrev pub key_rule : Rule
-key_rule = record (new_rule (codes "key")) { long = Some (codes "key"); value_names = 1 }
+key_rule = value_rule (codes "key")
 
 -- a command that judges a history, with two flags and an option
 abbrev pub with_history : App → App

@@ -1,7 +1,7 @@
 // The program's command line, as `clap` reads it.
 ghost use Rattle.std.specs.Prelude.{◌≡◌, IfOk, false};
 ghost use Rattle.clap.specs.Words.{app_of, new_app, rule_of};
-ghost use Rattle.command_line.specs.CommandLine.{all_rule, check_command, device_rule, explain_rule, file_rule, files_rule, json_rule, judge_command, junit_rule, key_rule, keys_rule, least_rule, option_rule, out_rule, picture_rule, program, run_command, script_command, scripts_program, serve_command, show_command, size_rule, skew_rule, skip_rule, trace_rule, warm_rule, window_rule, with_history, with_judging, with_listing, with_loads, with_reading, with_scope, zipf_rule};
+ghost use Rattle.command_line.specs.CommandLine.{all_rule, check_command, device_rule, explain_rule, file_rule, files_rule, flag_rule, json_rule, judge_command, junit_rule, key_rule, keys_rule, least_rule, option_rule, out_rule, picture_rule, program, run_command, script_command, scripts_program, serve_command, show_command, size_rule, skew_rule, skip_rule, trace_rule, value_rule, warm_rule, window_rule, with_history, with_judging, with_listing, with_loads, with_reading, with_scope, zipf_rule};
 
 use crate::help;
 use crate::help::Help;
@@ -165,15 +165,38 @@ fn files<'a>(alloc: Global) -> Arg<'a>
         .help("Files of the texts, each judged by itself, or - for standard input")
 }
 
+/// The flag of this name, with what its help says.
+fn flag<'a>(alloc: Global, name: &'a str, meaning: &'a str) -> Arg<'a>
+    ensures rule { rule_of result ≡ flag_rule name.entry.now }
+    ensures local { result.global ≡ false }
+{
+    Arg::new(alloc, name)
+        .long(name)
+        .action(ArgAction::SetTrue)
+        .help(meaning)
+}
+
+/// The option of this name, with a value and what its help says.
+fn valued<'a>(alloc: Global, name: &'a str, value: &'a str, meaning: &'a str) -> Arg<'a>
+    ensures rule { rule_of result ≡ value_rule name.entry.now }
+    ensures local { result.global ≡ false }
+{
+    Arg::new(alloc, name)
+        .long(name)
+        .value_name(value)
+        .help(meaning)
+}
+
 /// Whether it is said why a history is rejected.
 fn explain<'a>(alloc: Global) -> Arg<'a>
     ensures rule { rule_of result ≡ explain_rule }
     ensures local { result.global ≡ false }
 {
-    Arg::new(alloc, "explain")
-        .long("explain")
-        .action(ArgAction::SetTrue)
-        .help("Explain why the history is rejected, and show the calls around the place")
+    flag(
+        alloc,
+        "explain",
+        "Explain why the history is rejected, and show the calls around the place",
+    )
 }
 
 /// Whether all faults of a rejected history are listed.
@@ -181,10 +204,11 @@ fn all<'a>(alloc: Global) -> Arg<'a>
     ensures rule { rule_of result ≡ all_rule }
     ensures local { result.global ≡ false }
 {
-    Arg::new(alloc, "all")
-        .long("all")
-        .action(ArgAction::SetTrue)
-        .help("List all faults of a rejected history, one a line")
+    flag(
+        alloc,
+        "all",
+        "List all faults of a rejected history, one a line",
+    )
 }
 
 /// Whether what is reported is a JSON object and not lines.
@@ -192,10 +216,7 @@ fn json<'a>(alloc: Global) -> Arg<'a>
     ensures rule { rule_of result ≡ json_rule }
     ensures local { result.global ≡ false }
 {
-    Arg::new(alloc, "json")
-        .long("json")
-        .action(ArgAction::SetTrue)
-        .help("Print one JSON object instead of lines")
+    flag(alloc, "json", "Print one JSON object instead of lines")
 }
 
 /// The file that a picture is drawn to.
@@ -203,10 +224,12 @@ fn picture<'a>(alloc: Global) -> Arg<'a>
     ensures rule { rule_of result ≡ picture_rule }
     ensures local { result.global ≡ false }
 {
-    Arg::new(alloc, "picture")
-        .long("picture")
-        .value_name("OUT")
-        .help("Draw why the history is rejected to this file, as SVG")
+    valued(
+        alloc,
+        "picture",
+        "OUT",
+        "Draw why the history is rejected to this file, as SVG",
+    )
 }
 
 /// The file that an accepted history is written to.
@@ -214,10 +237,12 @@ fn out<'a>(alloc: Global) -> Arg<'a>
     ensures rule { rule_of result ≡ out_rule }
     ensures local { result.global ≡ false }
 {
-    Arg::new(alloc, "trace")
-        .long("trace")
-        .value_name("OUT")
-        .help("Write an accepted history to this file, as a trace that check accepts")
+    valued(
+        alloc,
+        "trace",
+        "OUT",
+        "Write an accepted history to this file, as a trace that check accepts",
+    )
 }
 
 /// The file that what came of judging is written to, as JUnit has it.
@@ -225,10 +250,12 @@ fn junit<'a>(alloc: Global) -> Arg<'a>
     ensures rule { rule_of result ≡ junit_rule }
     ensures local { result.global ≡ false }
 {
-    Arg::new(alloc, "junit")
-        .long("junit")
-        .value_name("OUT")
-        .help("Write what came of it to this file, as a JUnit test that CI systems show")
+    valued(
+        alloc,
+        "junit",
+        "OUT",
+        "Write what came of it to this file, as a JUnit test that CI systems show",
+    )
 }
 
 /// How many calls an accepted history has to have.
@@ -236,12 +263,12 @@ fn at_least<'a>(alloc: Global) -> Arg<'a>
     ensures rule { rule_of result ≡ least_rule }
     ensures local { result.global ≡ false }
 {
-    Arg::new(alloc, "at-least")
-        .long("at-least")
-        .value_name("NUMBER")
-        .help(
-            "End with status 2 if an accepted history has fewer calls than this, 0 to\n268435456. [default: 0]",
-        )
+    valued(
+        alloc,
+        "at-least",
+        "NUMBER",
+        "End with status 2 if an accepted history has fewer calls than this, 0 to\n268435456. [default: 0]",
+    )
 }
 
 /// By how much each stamp may differ from the truth.
@@ -249,12 +276,12 @@ fn skew<'a>(alloc: Global) -> Arg<'a>
     ensures rule { rule_of result ≡ skew_rule }
     ensures local { result.global ≡ false }
 {
-    Arg::new(alloc, "skew")
-        .long("skew")
-        .value_name("NUMBER")
-        .help(
-            "Judge as if each time might be wrong by so much, in the unit of the\ninput's times, 0 to 9223372036854775807. [default: 0]",
-        )
+    valued(
+        alloc,
+        "skew",
+        "NUMBER",
+        "Judge as if each time might be wrong by so much, in the unit of the\ninput's times, 0 to 9223372036854775807. [default: 0]",
+    )
 }
 
 /// Whether values that were there from the start are taken as such.
@@ -262,10 +289,11 @@ fn warm<'a>(alloc: Global) -> Arg<'a>
     ensures rule { rule_of result ≡ warm_rule }
     ensures local { result.global ≡ false }
 {
-    Arg::new(alloc, "warm")
-        .long("warm")
-        .action(ArgAction::SetTrue)
-        .help("Take values that were read and never put as there from the start,\none of a key")
+    flag(
+        alloc,
+        "warm",
+        "Take values that were read and never put as there from the start,\none of a key",
+    )
 }
 
 /// Which keys' calls are judged.
@@ -273,7 +301,10 @@ fn keys<'a>(alloc: Global) -> Arg<'a>
     ensures rule { rule_of result ≡ keys_rule }
     ensures local { result.global ≡ false }
 {
-    Arg::new(alloc, "keys").long("keys").value_name("P/Q").help(
+    valued(
+        alloc,
+        "keys",
+        "P/Q",
         "Judge one in Q keys: those whose hash leaves the remainder P, which is\nless than Q. With 0/Q to Q-1/Q each key is judged once.",
     )
 }
@@ -283,10 +314,11 @@ fn skip_bad<'a>(alloc: Global) -> Arg<'a>
     ensures rule { rule_of result ≡ skip_rule }
     ensures local { result.global ≡ false }
 {
-    Arg::new(alloc, "skip-bad")
-        .long("skip-bad")
-        .action(ArgAction::SetTrue)
-        .help("Pass over lines that are not calls, and count them")
+    flag(
+        alloc,
+        "skip-bad",
+        "Pass over lines that are not calls, and count them",
+    )
 }
 
 /// How far back a call may start, if the calls are judged as they come.
@@ -294,12 +326,12 @@ fn window<'a>(alloc: Global) -> Arg<'a>
     ensures rule { rule_of result ≡ window_rule }
     ensures local { result.global ≡ false }
 {
-    Arg::new(alloc, "window")
-        .long("window")
-        .value_name("NUMBER")
-        .help(
-            "Judge the calls as they come, and forget what can't matter any more. A\ncall may start so much before the last END that was read before, in the\nunit of the input's times, 0 to 9223372036854775807.",
-        )
+    valued(
+        alloc,
+        "window",
+        "NUMBER",
+        "Judge the calls as they come, and forget what can't matter any more. A\ncall may start so much before the last END that was read before, in the\nunit of the input's times, 0 to 9223372036854775807.",
+    )
 }
 
 /// The key whose calls alone are written.
@@ -307,10 +339,12 @@ fn key<'a>(alloc: Global) -> Arg<'a>
     ensures rule { rule_of result ≡ key_rule }
     ensures local { result.global ≡ false }
 {
-    Arg::new(alloc, "key")
-        .long("key")
-        .value_name("KEY")
-        .help("Print only the calls on this key (percent-encoded)")
+    valued(
+        alloc,
+        "key",
+        "KEY",
+        "Print only the calls on this key (percent-encoded)",
+    )
 }
 
 /// The subcommand `run`.
@@ -348,11 +382,7 @@ fn size<'a>(alloc: Global, size: SizeSetting) -> Arg<'a>
 {
     let name: &'a str = size.name();
     let meaning: &'a str = size.meaning();
-    Arg::new(alloc, name)
-        .long(name)
-        .value_name("BYTES")
-        .help(meaning)
-        .help_heading("Cache options")
+    valued(alloc, name, "BYTES", meaning).help_heading("Cache options")
 }
 
 /// Whether keys are drawn by Zipf's law.
@@ -360,13 +390,12 @@ fn zipf<'a>(alloc: Global) -> Arg<'a>
     ensures rule { rule_of result ≡ zipf_rule }
     ensures local { result.global ≡ false }
 {
-    Arg::new(alloc, "zipf")
-        .long("zipf")
-        .action(ArgAction::SetTrue)
-        .help(
-            "Draw keys by Zipf's law: the first twice as often as the second and\nthree times as often as the third. It takes at most 8 MiB of memory.",
-        )
-        .help_heading("Load options")
+    flag(
+        alloc,
+        "zipf",
+        "Draw keys by Zipf's law: the first twice as often as the second and\nthree times as often as the third. It takes at most 8 MiB of memory.",
+    )
+    .help_heading("Load options")
 }
 
 /// The option of a setting.
@@ -377,11 +406,7 @@ fn option<'a>(alloc: Global, setting: Setting) -> Arg<'a>
     let name: &'a str = setting.name();
     let meaning: &'a str = setting.meaning();
     let heading: &'a str = setting.heading();
-    Arg::new(alloc, name)
-        .long(name)
-        .value_name("NUMBER")
-        .help(meaning)
-        .help_heading(heading)
+    valued(alloc, name, "NUMBER", meaning).help_heading(heading)
 }
 
 /// The folder of the lanes' files.
@@ -389,12 +414,12 @@ fn device<'a>(alloc: Global) -> Arg<'a>
     ensures rule { rule_of result ≡ device_rule }
     ensures local { result.global ≡ false }
 {
-    Arg::new(alloc, "device")
-        .long("device")
-        .value_name("FOLDER")
-        .help(
-            "Keep the lanes in files of this folder, lane-0.dev and so on. The folder\nmust exist; older files of these names lose what they hold. Without it\nthe lanes are in memory.",
-        )
+    valued(
+        alloc,
+        "device",
+        "FOLDER",
+        "Keep the lanes in files of this folder, lane-0.dev and so on. The folder\nmust exist; older files of these names lose what they hold. Without it\nthe lanes are in memory.",
+    )
 }
 
 /// The file that the trace of a run is written to.
@@ -402,9 +427,11 @@ fn trace<'a>(alloc: Global) -> Arg<'a>
     ensures rule { rule_of result ≡ trace_rule }
     ensures local { result.global ≡ false }
 {
-    Arg::new(alloc, "trace")
-        .long("trace")
-        .value_name("FILE")
-        .required(true)
-        .help("Write the trace of all calls to this file, which kangaroo check reads")
+    valued(
+        alloc,
+        "trace",
+        "FILE",
+        "Write the trace of all calls to this file, which kangaroo check reads",
+    )
+    .required(true)
 }
