@@ -157,33 +157,33 @@ static SMALL: [u8; 13] = [1, 0, 0, 6, 0, 0, 0, 0, 0, 0, 0, 1, 0x61];
 static LASTING_SMALL: [u8; 5] = [1, 0, 0, 6, 0x61];
 
 /// Whether a set page with the head of a row is read with this many records, and no page with one more is.
-fn is_set_limit(row: &[u8], record: &[u8], count: u8) -> bool
+fn is_set_limit(row: &[u8], repeated: &[u8], count: u8) -> bool
     requires row { 16 ≤ length row.now }
-    requires record { 0 < length record.now }
+    requires some { 0 < length repeated.now }
     requires count { count < 255 }
 {
     let head = &row[..16];
-    let full = crowded(head, record, count);
+    let full = crowded(head, repeated, count);
     let Some(read) = SetPage::read(&full) else {
         return false;
     };
     read.records().len() == count as usize
-        && SetPage::read(&crowded(head, record, count + 1)).is_none()
+        && SetPage::read(&crowded(head, repeated, count + 1)).is_none()
 }
 
 /// The same of a log page.
-fn is_log_limit(row: &[u8], record: &[u8], count: u8) -> bool
+fn is_log_limit(row: &[u8], repeated: &[u8], count: u8) -> bool
     requires row { 14 ≤ length row.now }
-    requires record { 0 < length record.now }
+    requires some { 0 < length repeated.now }
     requires count { count < 255 }
 {
     let head = &row[..14];
-    let full = crowded(head, record, count);
+    let full = crowded(head, repeated, count);
     let Some(read) = LogPage::read(&full) else {
         return false;
     };
     read.records().len() == count as usize
-        && LogPage::read(&crowded(head, record, count + 1)).is_none()
+        && LogPage::read(&crowded(head, repeated, count + 1)).is_none()
 }
 
 // Records of 13 bytes and of 5 leave room on a page of 4,096 bytes, so that their number alone is too great.
