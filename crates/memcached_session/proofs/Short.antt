@@ -54,6 +54,7 @@ fault_short faults.BadShutdown = lit≤ tt
 fault_short faults.BadData = lit≤ tt
 fault_short faults.LineTooLong = lit≤ tt
 fault_short faults.TooManyFlags = lit≤ tt
+fault_short faults.FlagsTooLong = lit≤ tt
 fault_short faults.DuplicateFlag = lit≤ tt
 fault_short faults.BadFlag = lit≤ tt
 fault_short faults.BadOrDuplicateFlag = lit≤ tt
@@ -64,6 +65,7 @@ fault_short faults.BadInitial = lit≤ tt
 fault_short faults.BadMetaDelta = lit≤ tt
 fault_short faults.BadSetMode = lit≤ tt
 fault_short faults.BadArithmeticMode = lit≤ tt
+fault_short faults.BadDetail = lit≤ tt
 
 unserved_short : (what : Option Unserved) → IsShort (unserved_said what)
 unserved_short None = (lit≤ tt, refl)
@@ -85,6 +87,9 @@ stats_short kinds.Slabs = (lit≤ tt, refl)
 stats_short kinds.Sizes = (lit≤ tt, refl)
 stats_short kinds.Reset = (lit≤ tt, refl)
 stats_short kinds.Unknown = (lit≤ tt, refl)
+stats_short kinds.Dump = (lit≤ tt, refl)
+stats_short kinds.Detail = (lit≤ tt, refl)
+stats_short kinds.WrongDetail = (lit≤ tt, refl)
 
 flush_short : (refuses noreply : Bool) → IsShort (flush_said refuses noreply)
 flush_short true noreply = quiet_short noreply (reply_line replies.FlushNotAllowed) outcomes.Refused (lit≤ tt) refl
@@ -98,7 +103,7 @@ request_short : (refuses : Bool) (asked : Asked) → IsShort (request_said refus
 request_short refuses (AskGet cas) = (lit≤ tt, refl)
 request_short refuses (AskGetAndTouch exptime cas) = (lit≤ tt, refl)
 request_short refuses (AskFlushAll delay noreply) = flush_short refuses noreply
-request_short refuses (AskStats argument) = stats_short (kind_of argument)
+request_short refuses (AskStats argument further) = stats_short (kind_of argument further)
 request_short refuses AskVersion = (lit≤ tt, refl)
 request_short refuses (AskVerbosity level noreply) = quiet_short noreply (reply_line replies.Ok) outcomes.Nothing (lit≤ tt) refl
 request_short refuses AskQuit = (lit≤ tt, refl)
@@ -116,7 +121,7 @@ large_short (AskMeta meta) = unserved_short (unserved_in meta)
 large_short (AskGet cas) = (lit≤ tt, refl)
 large_short (AskGetAndTouch exptime cas) = (lit≤ tt, refl)
 large_short (AskFlushAll delay noreply) = (lit≤ tt, refl)
-large_short (AskStats argument) = (lit≤ tt, refl)
+large_short (AskStats argument further) = (lit≤ tt, refl)
 large_short AskVersion = (lit≤ tt, refl)
 large_short (AskVerbosity level noreply) = (lit≤ tt, refl)
 large_short AskQuit = (lit≤ tt, refl)

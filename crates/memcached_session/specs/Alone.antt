@@ -2,7 +2,7 @@
 use Rattle.std.specs.Prelude.{ℕ, Bool, List, if◌then◌else◌, Option, Some, None, codes}
 use Rattle.memcached_text.specs.declared.fixed_reply.FixedReply.{FixedReply}
 use Rattle.memcached_text.specs.declared.fixed_reply.FixedReply.TheVariants as replies
-use Rattle.memcached_text.specs.declared.line_error.LineError.TheVariants.{Unknown}
+use Rattle.memcached_text.specs.declared.line_error.LineError.TheVariants.{Unknown, BadDetail}
 use Rattle.memcached_text.specs.Texts.{reply_text, fault_text}
 use Rattle.memcached_text.specs.Answers.{line_text}
 use Rattle.memcached_text.specs.Asked.{Asked, AskGet, AskGetAndTouch, AskStore, AskDelete, AskDelta, AskTouch, AskFlushAll, AskStats, AskVersion, AskVerbosity, AskQuit, AskShutdown, AskMetaNoop, AskMeta}
@@ -29,6 +29,9 @@ stats_end kinds.Slabs = said (reply_line replies.End) outcomes.Nothing
 stats_end kinds.Sizes = said (reply_line replies.End) outcomes.Nothing
 stats_end kinds.Reset = said (reply_line replies.Reset) outcomes.Nothing
 stats_end kinds.Unknown = said (line_text (fault_text Unknown)) outcomes.Refused
+stats_end kinds.Dump = said (reply_line replies.End) outcomes.Nothing
+stats_end kinds.Detail = said (reply_line replies.Ok) outcomes.Nothing
+stats_end kinds.WrongDetail = said (line_text (fault_text BadDetail)) outcomes.Refused
 
 -- a flush, which the server refuses or did
 abbrev pub flush_said : Bool → Bool → Said
@@ -50,8 +53,8 @@ abbrev pub request_said : Bool → Asked → Said
 request_said refuses (AskGet cas) = silent outcomes.Nothing
 request_said refuses (AskGetAndTouch exptime cas) = silent outcomes.Nothing
 request_said refuses (AskFlushAll delay noreply) = flush_said refuses noreply
-request_said refuses (AskStats argument) = stats_end (kind_of argument)
-request_said refuses AskVersion = said (codes "VERSION 1.6.18-kangaroo\r\n") outcomes.Nothing
+request_said refuses (AskStats argument further) = stats_end (kind_of argument further)
+request_said refuses AskVersion = said (codes "VERSION 1.6.18\r\n") outcomes.Nothing
 request_said refuses (AskVerbosity level noreply) = unless_quiet noreply (reply_line replies.Ok) outcomes.Nothing
 request_said refuses AskQuit = silent outcomes.Nothing
 request_said refuses (AskShutdown graceful) = shutdown_said refuses

@@ -1,5 +1,5 @@
 -- What the next step of a session needs of its server.
-use Rattle.std.specs.Prelude.{ℕ, Bool, true, false, List, length, ◌==◌, if◌then◌else◌, Option, Some, None, codes}
+use Rattle.std.specs.Prelude.{ℕ, Bool, true, false, ◌||◌, List, length, ◌==◌, if◌then◌else◌, Option, Some, None, codes}
 use Rattle.std.specs.Str.{bytes_eq}
 use Rattle.memcached_text.specs.declared.reader_state.ReaderState.{ReaderState}
 use Rattle.memcached_text.specs.declared.reader_state.ReaderState.TheVariants.{Line, Keys, SkipLine, SkipData, Closed}
@@ -15,16 +15,24 @@ use Rattle.memcached_session.specs.declared.want.Want.TheVariants as wants
 use Rattle.memcached_session.specs.Keyed.{KeyAsked, key_in, gives_number, keyed_of}
 use Rattle.memcached_session.specs.Standing.{state_of}
 
--- the kind that an argument of stats names
-abbrev pub kind_of : List ℕ → StatsKind
-kind_of word =
+-- the kind of a stats detail, by the word after it
+abbrev pub detail_of : List ℕ → StatsKind
+detail_of word =
+    if bytes_eq word (codes "on") || bytes_eq word (codes "off") then kinds.Detail
+    else (if bytes_eq word (codes "dump") then kinds.Dump else kinds.WrongDetail)
+
+-- the kind that an argument of stats names, with the word after it
+abbrev pub kind_of : List ℕ → List ℕ → StatsKind
+kind_of word further =
     if length word == 0 then kinds.General
     else (if bytes_eq word (codes "settings") then kinds.Settings
     else (if bytes_eq word (codes "conns") then kinds.Conns
     else (if bytes_eq word (codes "items") then kinds.Items
     else (if bytes_eq word (codes "slabs") then kinds.Slabs
     else (if bytes_eq word (codes "sizes") then kinds.Sizes
-    else (if bytes_eq word (codes "reset") then kinds.Reset else kinds.Unknown))))))
+    else (if bytes_eq word (codes "reset") then kinds.Reset
+    else (if bytes_eq word (codes "cachedump") then kinds.Dump
+    else (if bytes_eq word (codes "detail") then detail_of further else kinds.Unknown))))))))
 
 -- the number of a kind
 abbrev pub number_of_kind : StatsKind → ℕ
@@ -36,6 +44,9 @@ number_of_kind kinds.Slabs = 4
 number_of_kind kinds.Sizes = 5
 number_of_kind kinds.Reset = 6
 number_of_kind kinds.Unknown = 7
+number_of_kind kinds.Dump = 8
+number_of_kind kinds.Detail = 9
+number_of_kind kinds.WrongDetail = 10
 
 -- the client is to be closed
 abbrev pub is_closed : ReaderState → Bool
@@ -48,7 +59,7 @@ is_closed Closed = true
 -- what a request that asks nothing of a lane needs
 abbrev pub want_asked : Asked → Need
 want_asked (AskFlushAll delay noreply) = needs.FlushAll delay
-want_asked (AskStats argument) = needs.Stats (kind_of argument)
+want_asked (AskStats argument further) = needs.Stats (kind_of argument further)
 want_asked (AskVerbosity level noreply) = needs.Verbosity level
 want_asked (AskShutdown graceful) = needs.Shutdown graceful
 want_asked (AskGet cas) = needs.Step

@@ -13,7 +13,7 @@ use crate::unserved::Unserved;
 use memcached_text::{FixedReply, LineError, MetaRequest, StreamEvent, TextAnswer, TextRequest};
 
 /// What `version` answers: the version of memcached whose protocol is served.
-const VERSION: &[u8] = b"1.6.18-kangaroo";
+const VERSION: &[u8] = b"1.6.18";
 
 /// What a step answers that asks nothing of a lane, by whether the server refuses what it asks.
 pub(crate) fn answer_alone<'a>(refuses: bool, event: &StreamEvent<'_>) -> Answered<'a>
@@ -51,7 +51,7 @@ fn to_request<'a>(refuses: bool, request: &TextRequest<'_>) -> Answered<'a>
 {
     match request {
         TextRequest::FlushAll { noreply, .. } => to_flush(refuses, *noreply),
-        TextRequest::Stats { argument } => to_stats(StatsKind::of(argument)),
+        TextRequest::Stats { argument, further } => to_stats(StatsKind::of(argument, further)),
         TextRequest::Version => Answered::loud(
             TextAnswer::Version(VERSION),
             SessionOutcome::Nothing,
@@ -119,6 +119,12 @@ fn to_stats<'a>(kind: StatsKind) -> Answered<'a>
         StatsKind::Slabs => plain(FixedReply::End, SessionOutcome::Nothing),
         StatsKind::Sizes => plain(FixedReply::End, SessionOutcome::Nothing),
         StatsKind::Reset => plain(FixedReply::Reset, SessionOutcome::Nothing),
+        StatsKind::Dump => plain(FixedReply::End, SessionOutcome::Nothing),
+        StatsKind::Detail => plain(FixedReply::Ok, SessionOutcome::Nothing),
+        StatsKind::WrongDetail => Answered::loud(
+            TextAnswer::Refused(LineError::BadDetail),
+            SessionOutcome::Refused,
+        ),
         StatsKind::Unknown => Answered::loud(
             TextAnswer::Refused(LineError::Unknown),
             SessionOutcome::Refused,

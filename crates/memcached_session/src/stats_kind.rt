@@ -1,6 +1,6 @@
 // Which stats a client asks for.
-ghost use Rattle.std.specs.Prelude.{◌≡◌};
-ghost use Rattle.memcached_session.specs.Wanting.{kind_of, number_of_kind};
+ghost use Rattle.std.specs.Prelude.{◌≡◌, ◌||◌};
+ghost use Rattle.memcached_session.specs.Wanting.{detail_of, kind_of, number_of_kind};
 
 /// Which stats a client asks for.
 #[derive(Clone, Copy, Debug, PartialEq, Eq)]
@@ -19,14 +19,20 @@ pub enum StatsKind {
     Sizes,
     /// `stats reset`: the counts are set to 0.
     Reset,
+    /// `stats cachedump ..` and `stats detail dump`: nothing is listed.
+    Dump,
+    /// `stats detail on` and `stats detail off`: nothing is counted by prefix, so nothing changes.
+    Detail,
+    /// `stats detail` with another word, or none.
+    WrongDetail,
     /// Any other word.
     Unknown,
 }
 
 impl StatsKind {
-    /// The kind that an argument of `stats` names.
-    pub fn of(argument: &[u8]) -> StatsKind
-        ensures { result ≡ kind_of argument.now }
+    /// The kind that an argument of `stats` names, with the word after it.
+    pub fn of(argument: &[u8], further: &[u8]) -> StatsKind
+        ensures { result ≡ kind_of argument.now further.now }
     {
         if argument.is_empty() {
             StatsKind::General
@@ -42,8 +48,25 @@ impl StatsKind {
             StatsKind::Sizes
         } else if argument == b"reset".as_slice() {
             StatsKind::Reset
+        } else if argument == b"cachedump".as_slice() {
+            StatsKind::Dump
+        } else if argument == b"detail".as_slice() {
+            StatsKind::of_detail(further)
         } else {
             StatsKind::Unknown
+        }
+    }
+
+    // The kind of a `stats detail`, by the word after it.
+    fn of_detail(word: &[u8]) -> StatsKind
+        ensures { result ≡ detail_of word.now }
+    {
+        if word == b"on".as_slice() || word == b"off".as_slice() {
+            StatsKind::Detail
+        } else if word == b"dump".as_slice() {
+            StatsKind::Dump
+        } else {
+            StatsKind::WrongDetail
         }
     }
 
@@ -60,6 +83,9 @@ impl StatsKind {
             StatsKind::Sizes => 5,
             StatsKind::Reset => 6,
             StatsKind::Unknown => 7,
+            StatsKind::Dump => 8,
+            StatsKind::Detail => 9,
+            StatsKind::WrongDetail => 10,
         }
     }
 }

@@ -96,7 +96,9 @@ fn need_of(request: &TextRequest<'_>) -> Need
 {
     match request {
         TextRequest::FlushAll { delay, .. } => Need::FlushAll(*delay),
-        TextRequest::Stats { argument } => Need::Stats(StatsKind::of(argument)),
+        TextRequest::Stats { argument, further } => {
+            Need::Stats(StatsKind::of(argument, further))
+        }
         TextRequest::Verbosity { level, .. } => Need::Verbosity(*level),
         TextRequest::Shutdown { graceful } => Need::Shutdown(*graceful),
         TextRequest::Get { .. } => Need::Step,

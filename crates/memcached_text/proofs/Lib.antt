@@ -4,5 +4,8 @@ pub mod StepLaws
 pub mod StepProgress
 pub mod StepBounds
 pub mod Streams
+pub mod Faults
 pub mod StepFlags
+pub mod Announcing
+pub mod Blocks
 pub mod public_laws

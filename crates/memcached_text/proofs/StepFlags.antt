@@ -1,10 +1,12 @@
 -- The flags of a meta request that a reader gives have no fault.
-use Rattle.std.proofs.Common.{◌≡◌, ℕ, ◌+◌, ◌-◌, ◌^◌, ◌&&◌, ◌||◌, not, nat_lt, nat_le, ◌==◌, Bool, true, false, List, [], length, take, drop, if◌then◌else◌, Option, Some, None, Result, Ok, Err, refl, sym}
-use Rattle.std.specs.Prelude.{position, slice_index_or, option_map, option_and_then, ok_or, codes}
+use Rattle.std.proofs.Common.{◌≡◌, ℕ, ◌+◌, ◌^◌, ◌&&◌, ◌||◌, not, nat_lt, nat_le, ◌==◌, Bool, true, false, List, [], length, take, drop, if◌then◌else◌, Option, Some, None, Result, Ok, Err, refl}
+use Rattle.std.specs.Prelude.{position, slice_index_or, ok_or, codes, option_map}
 use Rattle.std.specs.Str.{bytes_eq}
+use Rattle.std.proofs.Common.{inl, inr}
+use Rattle.std.proofs.lemmas.Bool.{cases_Bool}
 use Rattle.memcached_text.specs.declared.exptime.Exptime.{Exptime}
 use Rattle.memcached_text.specs.declared.line_error.LineError.{LineError}
-use Rattle.memcached_text.specs.declared.line_error.LineError.TheVariants.{Unknown, BadFormat, BadDelete, BadExptime, BadDelta, BadShutdown, TooManyFlags}
+use Rattle.memcached_text.specs.declared.line_error.LineError.TheVariants.{BadFormat, BadExptime, BadDelta}
 use Rattle.memcached_text.specs.declared.line_refusal.LineRefusal.{LineRefusal}
 use Rattle.memcached_text.specs.declared.reader_state.ReaderState.{ReaderState}
 use Rattle.memcached_text.specs.declared.reader_state.ReaderState.TheVariants.{Line, Keys, SkipLine, SkipData, Closed}
@@ -14,15 +16,15 @@ use Rattle.memcached_text.specs.declared.verb.MetaCommand.{MetaCommand}
 use Rattle.memcached_text.specs.declared.verb.MetaCommand.TheVariants as metas
 use Rattle.memcached_text.specs.declared.verb.Verb.{Verb}
 use Rattle.memcached_text.specs.declared.verb.Verb.TheVariants as verbs
-use Rattle.memcached_text.specs.Asked.{Asked, Storing, MetaAsking, AskGet, AskGetAndTouch, AskStore, AskDelete, AskDelta, AskTouch, AskFlushAll, AskStats, AskVersion, AskVerbosity, AskQuit, AskShutdown, AskMetaNoop, AskMeta}
-use Rattle.memcached_text.specs.Classic.{has_words, ends_noreply, storing_of, fewest_of, store_of, delete_at, delete_noreply, delete_of, delta_of, touch_of, delay_of, flush_of, verbosity_of, shutdown_of, get_of, get_and_touch_of}
+use Rattle.memcached_text.specs.Asked.{Asked, MetaAsking, AskGet, AskGetAndTouch, AskStore, AskDelete, AskDelta, AskTouch, AskFlushAll, AskStats, AskVersion, AskVerbosity, AskQuit, AskShutdown, AskMetaNoop, AskMeta}
+use Rattle.memcached_text.specs.Classic.{has_words, ends_noreply, storing_of, fewest_of, store_of, delete_at, delete_noreply, delete_of, delta_of, touch_of, flush_of, verbosity_of, shutdown_of, get_of, get_and_touch_of}
 use Rattle.memcached_text.specs.Limits.{AreFlags, HasFlags, GivesFlags}
-use Rattle.memcached_text.specs.Meta.{first_of, first_fault, fault_for, mode_fault, flags_fault, unless_fault, keyed_of, sized_of, set_of, asking_of, first_flag, loud, meta_request_of}
-use Rattle.memcached_text.specs.Numbers.{number_below, exptime_of}
+use Rattle.memcached_text.specs.Meta.{weight_of, first_of, gravest, fault_for, mode_fault, told_of, flags_fault, unless_fault, keyed_of, sized_of, set_of, asking_of, first_flag, meta_request_of}
+use Rattle.memcached_text.specs.Numbers.{number_below, length_of, low_number, exptime_of}
 use Rattle.memcached_text.specs.Requests.{or_refusal, classic_of, request_by, request_of, is_http}
-use Rattle.memcached_text.specs.Steps.{Outcome, nothing, is_feed, is_end, without_return, block_step, meta_step, asked_step, whole_step, refused_step, long_step, line_by, line_step, key_or, last_key, key_by, key_step, passing, decided, step_of}
+use Rattle.memcached_text.specs.Steps.{Outcome, is_feed, is_end, without_return, block_step, meta_step, whole_step, refused_step, long_step, line_by, line_step, key_or, last_key, key_by, key_step, passing, decided, step_of}
 use Rattle.memcached_text.specs.Verbs.{verb_of, meta_of}
-use Rattle.memcached_text.specs.Words.{words_of, word_at, after_word, is_key, is_noreply}
+use Rattle.memcached_text.specs.Words.{words_of, word_at, after_word, is_key}
 
 -- a request that was read has flags without a fault
 abbrev pub IsGood : {E : Type 0} → Result Asked E → Type 0
@@ -65,7 +67,7 @@ flush_good words = either (not (has_words words 1 3)) _ _ tt (either ((length wo
 
 verbosity_good : (words : List (List ℕ)) → IsGood (verbosity_of words)
 unfolding verbosity_of
-verbosity_good words = either (not (has_words words 2 3) || ends_noreply words 1) _ _ tt (good_of _ (number_below (2 ^ 32) (word_at words 1)) BadFormat (λ level. tt))
+verbosity_good words = either (not (has_words words 2 3)) _ _ tt (good_of _ (low_number (word_at words 1)) BadFormat (λ level. tt))
 
 shutdown_good : (words : List (List ℕ)) → IsGood (shutdown_of words)
 unfolding shutdown_of
@@ -77,7 +79,7 @@ get_good cas words = either (nat_lt (length words) 2) _ _ tt tt
 
 get_and_touch_good : (cas : Bool) (words : List (List ℕ)) → IsGood (get_and_touch_of cas words)
 unfolding get_and_touch_of
-get_and_touch_good cas words = either (nat_lt (length words) 3) _ _ tt (good_of _ (exptime_of (word_at words 1)) BadExptime (λ exptime. tt))
+get_and_touch_good cas words = either (nat_lt (length words) 2) _ _ tt (good_of _ (exptime_of (word_at words 1)) BadExptime (λ exptime. tt))
 
 classic_good : (verb : Verb) (words : List (List ℕ)) → IsGood (classic_of verb words)
 unfolding classic_of
@@ -101,34 +103,38 @@ refusal_good : (verb : Verb) (words : List (List ℕ)) (asked : Result Asked Lin
 refusal_good verb words (Ok asked) good = good
 refusal_good verb words (Err fault) good = tt
 
-first_none : (one other : Option LineError) → first_of one other ≡ None → one ≡ None
-first_none None other none = refl
-first_none (Some fault) other none = cc
+-- one of two faults is told, if there is one
+some_of : (mode : Option LineError) (fault : LineError) → first_of mode (Some fault) ≡ None → Some fault ≡ None
+some_of None fault none = none
+some_of (Some other) fault none = cc
 
-map_none : (command : MetaCommand) (fault : Option LineError) → option_map (fault_for command) fault ≡ None → fault ≡ None
-map_none command None none = refl
-map_none command (Some fault) none = cc
+told_none : (command : MetaCommand) (fault mode : Option LineError) → told_of command fault mode ≡ None → fault ≡ None
+told_none command None mode none = refl
+told_none command (Some fault) mode none = elim (cases_Bool (weight_of fault == 0)) [
+  | inl last ↦ some_of mode fault (rw last at none)
+  | inr other ↦ let never : Some (fault_for command fault) ≡ None = rw other at none in cc
+]
 
 -- flags of which a command finds no fault have none
-no_fault : (command : MetaCommand) (words : List (List ℕ)) → flags_fault command words ≡ None → first_fault [] words ≡ None
+no_fault : (command : MetaCommand) (words : List (List ℕ)) → flags_fault command words ≡ None → gravest [] None words ≡ None
 unfolding flags_fault
-no_fault command words none = map_none command (first_fault [] words) (first_none _ (mode_fault command words) none)
+no_fault command words none = told_none command (gravest [] None words) (mode_fault command words) none
 
-unless_good : (fault : Option LineError) (skipped : ℕ) (meta : MetaAsking) → (fault ≡ None → AreFlags meta.flags) → IsGood (unless_fault fault skipped meta)
-unless_good None skipped meta good = good refl
-unless_good (Some fault) skipped meta good = tt
+unless_good : (fault : Option LineError) (words : List (List ℕ)) (meta : MetaAsking) → (fault ≡ None → AreFlags meta.flags) → IsGood (unless_fault fault words meta)
+unless_good None words meta good = good refl
+unless_good (Some fault) words meta good = tt
 
 keyed_good : (command : MetaCommand) (words : List (List ℕ)) (flags : List ℕ) → IsGood (keyed_of command words flags)
-keyed_good command words flags = unless_good (flags_fault command (words_of flags)) 0 (record { command = command; key = word_at words 1; length = 0; flags = flags }) (no_fault command (words_of flags))
+keyed_good command words flags = unless_good (flags_fault command (words_of flags)) words (record { command = command; key = word_at words 1; length = 0; flags = flags }) (no_fault command (words_of flags))
 
 sized_good : (size : Option ℕ) (words : List (List ℕ)) (flags : List ℕ) → IsGood (sized_of size words flags)
 sized_good None words flags = tt
-sized_good (Some size) words flags = unless_good (flags_fault metas.Set (words_of flags)) (size + 2) (record { command = metas.Set; key = word_at words 1; length = size; flags = flags }) (no_fault metas.Set (words_of flags))
+sized_good (Some size) words flags = unless_good (flags_fault metas.Set (words_of flags)) words (record { command = metas.Set; key = word_at words 1; length = size; flags = flags }) (no_fault metas.Set (words_of flags))
 
 asking_good : (command : MetaCommand) (words : List (List ℕ)) (line : List ℕ) → IsGood (asking_of command words line)
 unfolding set_of
 asking_good metas.Get words line = keyed_good metas.Get words (after_word (after_word line))
-asking_good metas.Set words line = sized_good (number_below (2 ^ 31 - 2) (word_at words 2)) words (after_word (after_word (after_word line)))
+asking_good metas.Set words line = sized_good (length_of (word_at words 2)) words (after_word (after_word (after_word line)))
 asking_good metas.Delete words line = keyed_good metas.Delete words (after_word (after_word line))
 asking_good metas.Arithmetic words line = keyed_good metas.Arithmetic words (after_word (after_word line))
 asking_good metas.Debug words line = keyed_good metas.Debug words (after_word (after_word line))
@@ -179,7 +185,7 @@ whole_gives most past line rest (Ok (AskDelete key noreply)) good = tt
 whole_gives most past line rest (Ok (AskDelta delta)) good = tt
 whole_gives most past line rest (Ok (AskTouch key exptime noreply)) good = tt
 whole_gives most past line rest (Ok (AskFlushAll delay noreply)) good = tt
-whole_gives most past line rest (Ok (AskStats argument)) good = tt
+whole_gives most past line rest (Ok (AskStats argument further)) good = tt
 whole_gives most past line rest (Ok AskVersion) good = tt
 whole_gives most past line rest (Ok (AskVerbosity level noreply)) good = tt
 whole_gives most past line rest (Ok AskQuit) good = tt
@@ -196,7 +202,7 @@ long_gives line (Ok (AskDelete key noreply)) = tt
 long_gives line (Ok (AskDelta delta)) = tt
 long_gives line (Ok (AskTouch key exptime noreply)) = tt
 long_gives line (Ok (AskFlushAll delay noreply)) = tt
-long_gives line (Ok (AskStats argument)) = tt
+long_gives line (Ok (AskStats argument further)) = tt
 long_gives line (Ok AskVersion) = tt
 long_gives line (Ok (AskVerbosity level noreply)) = tt
 long_gives line (Ok AskQuit) = tt

@@ -45,7 +45,7 @@ pub data Asked : Type 0 where
   AskDelta : Changing → Asked
   AskTouch : List ℕ → Exptime → Bool → Asked
   AskFlushAll : ℕ → Bool → Asked
-  AskStats : List ℕ → Asked
+  AskStats : List ℕ → List ℕ → Asked
   AskVersion : Asked
   AskVerbosity : ℕ → Bool → Asked
   AskQuit : Asked
@@ -71,7 +71,7 @@ shown (requests.Delete key noreply) = AskDelete key.now noreply
 shown (requests.Delta delta) = AskDelta (delta_shown delta)
 shown (requests.Touch key exptime noreply) = AskTouch key.now exptime noreply
 shown (requests.FlushAll delay noreply) = AskFlushAll delay noreply
-shown (requests.Stats argument) = AskStats argument.now
+shown (requests.Stats argument further) = AskStats argument.now further.now
 shown requests.Version = AskVersion
 shown (requests.Verbosity level noreply) = AskVerbosity level noreply
 shown requests.Quit = AskQuit

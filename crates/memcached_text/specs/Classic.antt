@@ -1,5 +1,5 @@
 -- The classic commands, by the words of their lines.
-use Rattle.std.specs.Prelude.{ℕ, ◌+◌, ◌-◌, ◌^◌, Bool, true, false, ◌&&◌, ◌||◌, not, List, length, ◌==◌, nat_le, nat_lt, if◌then◌else◌, Option, Some, None, option_and_then, option_map, ok_or, Result, Ok, Err, codes}
+use Rattle.std.specs.Prelude.{ℕ, ◌+◌, ◌^◌, Bool, true, false, ◌&&◌, ◌||◌, not, List, length, ◌==◌, nat_le, nat_lt, if◌then◌else◌, Option, Some, None, option_and_then, option_map, ok_or, Result, Ok, Err, codes}
 use Rattle.std.specs.Str.{bytes_eq}
 use Rattle.memcached_text.specs.declared.exptime.Exptime.{Exptime}
 use Rattle.memcached_text.specs.declared.exptime.Exptime.TheVariants.{Never, At, Past}
@@ -9,7 +9,7 @@ use Rattle.memcached_text.specs.declared.store_command.StoreCommand.{StoreComman
 use Rattle.memcached_text.specs.declared.store_command.StoreCommand.TheVariants.{Set, Add, Replace, Append, Prepend, Cas}
 use Rattle.memcached_text.specs.declared.verb.Direction.{Direction}
 use Rattle.memcached_text.specs.Words.{word_at, is_key, is_noreply}
-use Rattle.memcached_text.specs.Numbers.{number_below, exptime_of}
+use Rattle.memcached_text.specs.Numbers.{number_below, length_of, low_number, exptime_of}
 use Rattle.memcached_text.specs.Asked.{Asked, AskGet, AskGetAndTouch, AskStore, AskDelete, AskDelta, AskTouch, AskFlushAll, AskVerbosity, AskShutdown, Storing}
 
 -- how many words there are
@@ -52,7 +52,7 @@ storing_of mode words =
       cas = cas;
       noreply = ends_noreply words (fewest_of mode);
     })
-    (cas_of mode words)) (number_below (2 ^ 31 - 2) (word_at words 4))) (exptime_of (word_at words 3))) (number_below (2 ^ 32) (word_at words 2))
+    (cas_of mode words)) (length_of (word_at words 4))) (exptime_of (word_at words 3))) (low_number (word_at words 2))
     else None
 
 -- COMMAND KEY FLAGS EXPTIME LENGTH [CAS] [noreply]
@@ -114,8 +114,8 @@ flush_of words =
 -- verbosity LEVEL [noreply]
 unfoldable pub verbosity_of : List (List ℕ) → Result Asked LineError
 verbosity_of words =
-    if not (has_words words 2 3) || ends_noreply words 1 then Err Unknown
-    else ok_or (option_map (λ level. AskVerbosity level (ends_noreply words 2)) (number_below (2 ^ 32) (word_at words 1))) BadFormat
+    if not (has_words words 2 3) then Err Unknown
+    else ok_or (option_map (λ level. AskVerbosity level (ends_noreply words 2)) (low_number (word_at words 1))) BadFormat
 
 -- shutdown [graceful]
 unfoldable pub shutdown_of : List (List ℕ) → Result Asked LineError
@@ -130,5 +130,5 @@ get_of with_cas words = if nat_lt (length words) 2 then Err Unknown else Ok (Ask
 -- gat EXPTIME KEY.., gats EXPTIME KEY..
 unfoldable pub get_and_touch_of : Bool → List (List ℕ) → Result Asked LineError
 get_and_touch_of with_cas words =
-    if nat_lt (length words) 3 then Err Unknown
+    if nat_lt (length words) 2 then Err Unknown
     else ok_or (option_map (λ exptime. AskGetAndTouch exptime with_cas) (exptime_of (word_at words 1))) BadExptime

@@ -4,9 +4,11 @@ pub mod Verbs
 pub mod Asked
 pub mod Classic
 pub mod Meta
+pub mod Refusals
 pub mod Requests
 pub mod Texts
 pub mod Answers
 pub mod Steps
 pub mod StepsShown
 pub mod Limits
+pub mod Blocks

@@ -1,18 +1,18 @@
 -- What bounds the length of an answer: its key and flags are those of a line, and its numbers have so many bits.
-use Rattle.std.specs.Prelude.{◌≡◌, ◌<◌, ◌≤◌, ◌^◌, ℕ, List, [], length, Option, Some, None, IfSome}
+use Rattle.std.specs.Prelude.{◌≡◌, ◌<◌, ◌≤◌, ◌^◌, ℕ, List, [], length, None, IfSome}
 use Rattle.memcached_text.specs.declared.meta_answer.MetaFields.{MetaFields}
 use Rattle.memcached_text.specs.declared.meta_answer.MetaStatus.{MetaStatus}
 use Rattle.memcached_text.specs.declared.meta_answer.MetaStatus.TheVariants as statuses
 use Rattle.memcached_text.specs.declared.meta_answer.Ttl.{Ttl}
 use Rattle.memcached_text.specs.declared.meta_answer.Ttl.TheVariants.{Unlimited, Seconds}
 use Rattle.memcached_text.specs.Asked.{Asked, AskMeta}
-use Rattle.memcached_text.specs.Meta.{first_fault}
+use Rattle.memcached_text.specs.Meta.{gravest}
 use Rattle.memcached_text.specs.Steps.{Told, TellRequest, TellData, TellTooLarge}
 use Rattle.memcached_text.specs.Words.{words_of}
 
 -- flags without a fault: each letter stands once, and an opaque token has at most 32 bytes with its letter
 abbrev pub AreFlags : List ℕ → Type 0
-AreFlags flags = first_fault [] (words_of flags) ≡ None
+AreFlags flags = gravest [] None (words_of flags) ≡ None
 
 -- the flags of what is asked for, if there are some, have no fault
 abbrev pub HasFlags : Asked → Type 0

@@ -1,14 +1,15 @@
 -- The meta commands that name a key, and their flags.
-use Rattle.std.specs.Prelude.{ℕ, ◌+◌, ◌-◌, ◌^◌, Bool, false, ◌&&◌, ◌||◌, not, List, [], ◌∷◌, ◌++◌, length, drop, ◌==◌, nat_lt, if◌then◌else◌, Option, Some, None, option_and_then, option_map, Result, Ok, Err, codes, slice_index_or, position}
+use Rattle.std.specs.Prelude.{ℕ, ◌+◌, ◌^◌, Bool, false, ◌&&◌, ◌||◌, not, List, [], ◌∷◌, ◌++◌, length, drop, ◌==◌, nat_lt, nat_le, if◌then◌else◌, Option, Some, None, option_and_then, option_map, Result, Ok, Err, codes, slice_index_or, position}
 use Rattle.std.specs.List.{list_any, find}
 use Rattle.memcached_text.specs.declared.exptime.Exptime.{Exptime}
 use Rattle.memcached_text.specs.declared.line_error.LineError.{LineError}
-use Rattle.memcached_text.specs.declared.line_error.LineError.TheVariants.{Unknown, BadFormat, TooManyFlags, DuplicateFlag, BadFlag, BadOrDuplicateFlag, BadToken, OpaqueTooLong, BadModeToken, BadInitial, BadMetaDelta, BadSetMode, BadArithmeticMode}
+use Rattle.memcached_text.specs.declared.line_error.LineError.TheVariants.{Unknown, BadFormat, TooManyFlags, FlagsTooLong, DuplicateFlag, BadFlag, BadOrDuplicateFlag, BadToken, OpaqueTooLong, BadModeToken, BadInitial, BadMetaDelta, BadSetMode, BadArithmeticMode}
 use Rattle.memcached_text.specs.declared.line_refusal.LineRefusal.{LineRefusal}
 use Rattle.memcached_text.specs.declared.verb.MetaCommand.{MetaCommand}
 use Rattle.memcached_text.specs.declared.verb.MetaCommand.TheVariants.{Get, Set, Delete, Arithmetic, Debug}
 use Rattle.memcached_text.specs.Words.{words_of, word_at, after_word, is_key}
-use Rattle.memcached_text.specs.Numbers.{number_below, exptime_of}
+use Rattle.memcached_text.specs.Numbers.{number_below, length_of, low_number, exptime_of}
+use Rattle.memcached_text.specs.Refusals.{meta_block}
 use Rattle.memcached_text.specs.Asked.{Asked, AskMeta, MetaAsking}
 
 -- the letter of a flag is its first byte, and its token what follows
@@ -59,15 +60,16 @@ abbrev pub unless : {A : Type 0} → Option A → LineError → Option LineError
 unless (Some x) fault = None
 unless None fault = Some fault
 
--- the fault of a flag whose token is a number: N, T and R have a moment, F 32 bits, C, J and D 64 bits
+-- the fault of a flag whose token is a number: N, T and R have a moment, F, C, J and D one of 64 bits. memcached tells the fault of F as one of
+-- the line, and takes a letter that is no ASCII for one that stands twice
 unfoldable pub number_fault : ℕ → List ℕ → Option LineError
 number_fault letter token =
     if is_among letter (codes "NTR") then unless (exptime_of token) BadToken
-    else (if letter == 70 then unless (number_below (2 ^ 32) token) BadToken
+    else (if letter == 70 then unless (low_number token) BadFormat
     else (if letter == 67 then unless (number_below (2 ^ 64) token) BadToken
     else (if letter == 74 then unless (number_below (2 ^ 64) token) BadInitial
     else (if letter == 68 then unless (number_below (2 ^ 64) token) BadMetaDelta
-    else Some BadFlag))))
+    else (if nat_lt letter 127 then Some BadFlag else Some DuplicateFlag)))))
 
 -- the fault of a flag by itself: O has an opaque token, M one byte
 unfoldable pub flag_fault : List ℕ → Option LineError
@@ -86,10 +88,27 @@ abbrev pub first_of : Option LineError → Option LineError → Option LineError
 first_of (Some fault) other = Some fault
 first_of None other = other
 
--- the fault of the first flag that has one
-abbrev pub first_fault : List (List ℕ) → List (List ℕ) → Option LineError
-first_fault before [] = None
-first_fault before (flag ∷ rest) = first_of (fault_after before flag) (first_fault (before ++ flag ∷ []) rest)
+-- how a fault ranks among those of other flags: one that is not known or stands twice is told before all others, an opaque token that is
+-- too long after all others
+abbrev pub weight_of : LineError → ℕ
+weight_of OpaqueTooLong = 0
+weight_of BadFormat = 1
+weight_of DuplicateFlag = 3
+weight_of BadFlag = 3
+weight_of _ = 2
+
+abbrev pub rank_of : Option LineError → ℕ
+rank_of None = 0
+rank_of (Some fault) = 1 + weight_of fault
+
+-- of two faults, the one that memcached tells: it looks no further after one of the highest rank, and else tells the later of equals
+abbrev pub graver : Option LineError → Option LineError → Option LineError
+graver told fault = if nat_le 4 (rank_of told) || nat_lt (rank_of fault) (rank_of told) then told else fault
+
+-- the fault of flags that is told, after these flags, of which one is told
+abbrev pub gravest : List (List ℕ) → Option LineError → List (List ℕ) → Option LineError
+gravest before told [] = told
+gravest before told (flag ∷ rest) = gravest (before ++ flag ∷ []) (graver told (fault_after before flag)) rest
 
 -- the fault of a command's flags, as the command says it
 abbrev pub fault_for : MetaCommand → LineError → LineError
@@ -111,32 +130,37 @@ mode_fault Delete flags = None
 mode_fault Arithmetic flags = if list_any (is_mode_outside (codes "I+D-")) flags then Some BadArithmeticMode else None
 mode_fault Debug flags = None
 
+-- the fault that is told, of that of the flags and that of their mode: an opaque token that is too long is told after the mode
+abbrev pub told_of : MetaCommand → Option LineError → Option LineError → Option LineError
+told_of command None mode = mode
+told_of command (Some fault) mode = if weight_of fault == 0 then first_of mode (Some fault) else Some (fault_for command fault)
+
 -- the fault of a command's flags
 unfoldable pub flags_fault : MetaCommand → List (List ℕ) → Option LineError
-flags_fault command flags = first_of (option_map (fault_for command) (first_fault [] flags)) (mode_fault command flags)
+flags_fault command flags = told_of command (gravest [] None flags) (mode_fault command flags)
 
--- a refusal that is answered
-abbrev pub loud : LineError → LineRefusal
-loud fault = record { fault = fault; noreply = false; skipped = 0 }
+-- a meta command's line is refused, with the data block that belongs to it
+abbrev pub meta_refusal : MetaCommand → List (List ℕ) → LineError → LineRefusal
+meta_refusal command words fault = record { fault = fault; noreply = false; block = meta_block command words }
 
--- the request, unless its flags have a fault; then a data block that belongs to it is passed over
-abbrev pub unless_fault : Option LineError → ℕ → MetaAsking → Result Asked LineRefusal
-unless_fault None skipped asking = Ok (AskMeta asking)
-unless_fault (Some fault) skipped asking = Err (record { fault = fault; noreply = false; skipped = skipped })
+-- the request, unless its flags have a fault
+abbrev pub unless_fault : Option LineError → List (List ℕ) → MetaAsking → Result Asked LineRefusal
+unless_fault None words asking = Ok (AskMeta asking)
+unless_fault (Some fault) words asking = Err (meta_refusal asking.command words fault)
 
 -- COMMAND KEY FLAG.. for all but ms, by the text of the flags
 abbrev pub keyed_of : MetaCommand → List (List ℕ) → List ℕ → Result Asked LineRefusal
 keyed_of command words flags =
-    unless_fault (flags_fault command (words_of flags)) 0 (record { command = command; key = word_at words 1; length = 0; flags = flags })
+    unless_fault (flags_fault command (words_of flags)) words (record { command = command; key = word_at words 1; length = 0; flags = flags })
 
 -- ms KEY LENGTH FLAG.., by the length and the text of the flags
 abbrev pub sized_of : Option ℕ → List (List ℕ) → List ℕ → Result Asked LineRefusal
-sized_of None words flags = Err (loud BadFormat)
+sized_of None words flags = Err (meta_refusal Set words BadFormat)
 sized_of (Some length) words flags =
-    unless_fault (flags_fault Set (words_of flags)) (length + 2) (record { command = Set; key = word_at words 1; length = length; flags = flags })
+    unless_fault (flags_fault Set (words_of flags)) words (record { command = Set; key = word_at words 1; length = length; flags = flags })
 
 unfoldable pub set_of : List (List ℕ) → List ℕ → Result Asked LineRefusal
-set_of words flags = sized_of (number_below (2 ^ 31 - 2) (word_at words 2)) words flags
+set_of words flags = sized_of (length_of (word_at words 2)) words flags
 
 -- the flags are what is after the command, the key and, for ms, the length
 abbrev pub asking_of : MetaCommand → List (List ℕ) → List ℕ → Result Asked LineRefusal
@@ -154,10 +178,15 @@ first_flag Delete = 2
 first_flag Arithmetic = 2
 first_flag Debug = 2
 
+-- the fault of a line with too many words, as the command says it
+abbrev pub many_fault : MetaCommand → LineError
+many_fault Get = TooManyFlags
+many_fault _ = FlagsTooLong
+
 -- a meta command's line, which has at most 19 words
 unfoldable pub meta_request_of : MetaCommand → List (List ℕ) → List ℕ → Result Asked LineRefusal
 meta_request_of command words line =
-    if nat_lt (length words) 2 then Err (loud Unknown)
-    else (if not (is_key (word_at words 1)) || nat_lt (length words) (first_flag command) then Err (loud BadFormat)
-    else (if nat_lt 19 (length words) then Err (loud TooManyFlags)
+    if nat_lt (length words) 2 then Err (meta_refusal command words Unknown)
+    else (if not (is_key (word_at words 1)) || nat_lt (length words) (first_flag command) then Err (meta_refusal command words BadFormat)
+    else (if nat_lt 19 (length words) then Err (meta_refusal command words (many_fault command))
     else asking_of command words line))

@@ -10,7 +10,8 @@ use Rattle.memcached_text.specs.declared.verb.Verb.TheVariants.{Get, Gets, GetAn
 use Rattle.memcached_text.specs.Words.{words_of, word_at, is_noreply}
 use Rattle.memcached_text.specs.Verbs.{verb_of, meta_of}
 use Rattle.memcached_text.specs.Classic.{store_of, delete_of, delta_of, touch_of, flush_of, verbosity_of, shutdown_of, get_of, get_and_touch_of}
-use Rattle.memcached_text.specs.Meta.{loud, meta_request_of}
+use Rattle.memcached_text.specs.Meta.{meta_request_of}
+use Rattle.memcached_text.specs.Refusals.{loud, block_after}
 use Rattle.memcached_text.specs.Asked.{Asked, AskStats, AskVersion, AskQuit, AskMetaNoop}
 
 -- the last word is noreply
@@ -43,7 +44,7 @@ may_be_quiet MetaNoop = false
 -- a request, or the refusal of its line; that is not answered if the line says noreply
 abbrev pub or_refusal : Verb → List (List ℕ) → Result Asked LineError → Result Asked LineRefusal
 or_refusal verb words (Ok asked) = Ok asked
-or_refusal verb words (Err fault) = Err (record { fault = fault; noreply = may_be_quiet verb && not (is_unknown fault) && is_last_noreply words; skipped = 0 })
+or_refusal verb words (Err fault) = Err (record { fault = fault; noreply = may_be_quiet verb && not (is_unknown fault) && is_last_noreply words; block = block_after verb words })
 
 -- what the words of a classic command ask for
 unfoldable pub classic_of : Verb → List (List ℕ) → Result Asked LineError
@@ -56,7 +57,7 @@ classic_of Delete words = delete_of words
 classic_of (Count direction) words = delta_of direction words
 classic_of Touch words = touch_of words
 classic_of FlushAll words = flush_of words
-classic_of Stats words = Ok (AskStats (word_at words 1))
+classic_of Stats words = Ok (AskStats (word_at words 1) (word_at words 2))
 classic_of Version words = Ok AskVersion
 classic_of Verbosity words = verbosity_of words
 classic_of Quit words = Ok AskQuit

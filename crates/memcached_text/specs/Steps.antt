@@ -8,10 +8,12 @@ use Rattle.memcached_text.specs.declared.line_error.LineError.TheVariants.{BadFo
 use Rattle.memcached_text.specs.declared.reader_state.ReaderState.{ReaderState}
 use Rattle.memcached_text.specs.declared.reader_state.ReaderState.TheVariants.{Line, Keys, SkipLine, SkipData, Closed}
 use Rattle.memcached_text.specs.declared.line_refusal.LineRefusal.{LineRefusal}
+use Rattle.memcached_text.specs.declared.line_refusal.RefusedBlock.{RefusedBlock}
+use Rattle.memcached_text.specs.declared.line_refusal.RefusedBlock.TheVariants.{Absent, OfLength, Unreadable}
 use Rattle.memcached_text.specs.declared.verb.MetaCommand.{MetaCommand}
 use Rattle.memcached_text.specs.declared.verb.MetaCommand.TheVariants as metas
 use Rattle.memcached_text.specs.Asked.{Asked, AskGet, AskGetAndTouch, AskStore, AskDelete, AskDelta, AskTouch, AskFlushAll, AskStats, AskVersion, AskVerbosity, AskQuit, AskShutdown, AskMetaNoop, AskMeta, shown}
-use Rattle.memcached_text.specs.Meta.{loud}
+use Rattle.memcached_text.specs.Refusals.{loud}
 use Rattle.memcached_text.specs.Requests.{request_of, is_http}
 use Rattle.memcached_text.specs.Words.{after_word, is_key}
 
@@ -62,7 +64,7 @@ block_step most past asked len noreply rest =
     if nat_lt most len then outcome past (TellTooLarge asked) (SkipData (len + 2))
     else (if nat_lt (length rest) (len + 2) then nothing Line
     else (if (slice_index_or rest len 0 == 13) && (slice_index_or rest (len + 1) 0 == 10) then outcome (past + len + 2) (TellData asked (take len rest)) Line
-    else outcome (past + len + 2) (TellRefused (record { fault = BadData; noreply = noreply; skipped = 0 })) Line))
+    else outcome (past + len + 2) (TellRefused (record { fault = BadData; noreply = noreply; block = Absent })) Line))
 
 -- a request whose line ends it
 abbrev pub plain_step : ℕ → Asked → Outcome
@@ -89,7 +91,7 @@ asked_step most past line rest (AskDelete key noreply) = plain_step past (AskDel
 asked_step most past line rest (AskDelta delta) = plain_step past (AskDelta delta)
 asked_step most past line rest (AskTouch key exptime noreply) = plain_step past (AskTouch key exptime noreply)
 asked_step most past line rest (AskFlushAll delay noreply) = plain_step past (AskFlushAll delay noreply)
-asked_step most past line rest (AskStats argument) = plain_step past (AskStats argument)
+asked_step most past line rest (AskStats argument further) = plain_step past (AskStats argument further)
 asked_step most past line rest AskVersion = plain_step past AskVersion
 asked_step most past line rest (AskVerbosity level noreply) = plain_step past (AskVerbosity level noreply)
 asked_step most past line rest AskQuit = plain_step past AskQuit
@@ -97,10 +99,17 @@ asked_step most past line rest (AskShutdown graceful) = plain_step past (AskShut
 asked_step most past line rest AskMetaNoop = plain_step past AskMetaNoop
 asked_step most past line rest (AskMeta meta) = meta_step most past (AskMeta meta) meta.command meta.length rest
 
--- a line that is refused: what belongs to it is passed over; after one of HTTP nothing is looked at any more
+-- where the reader stands after a refused line: its data block and the block's end are passed over, or all that comes if nobody can tell where
+-- the block ends
+abbrev pub after_refusal : RefusedBlock → ReaderState
+after_refusal Absent = Line
+after_refusal (OfLength length) = SkipData (length + 2)
+after_refusal Unreadable = Closed
+
+-- a line that is refused; after one of HTTP nothing is looked at any more
 abbrev pub refused_step : ℕ → Bool → LineRefusal → Outcome
 refused_step past true refusal = outcome past TellForeign Closed
-refused_step past false refusal = outcome past (TellRefused refusal) (SkipData refusal.skipped)
+refused_step past false refusal = outcome past (TellRefused refusal) (after_refusal refusal.block)
 
 -- a line that is whole, by what it asks for or why it is refused
 abbrev pub whole_step : ℕ → ℕ → List ℕ → List ℕ → Result Asked LineRefusal → Outcome

@@ -16,6 +16,7 @@ fault_text faults.BadShutdown = codes "CLIENT_ERROR invalid shutdown mode"
 fault_text faults.BadData = codes "CLIENT_ERROR bad data chunk"
 fault_text faults.LineTooLong = codes "CLIENT_ERROR line too long"
 fault_text faults.TooManyFlags = codes "CLIENT_ERROR options flags are too long"
+fault_text faults.FlagsTooLong = codes "CLIENT_ERROR options flags too long"
 fault_text faults.DuplicateFlag = codes "CLIENT_ERROR duplicate flag"
 fault_text faults.BadFlag = codes "CLIENT_ERROR invalid flag"
 fault_text faults.BadOrDuplicateFlag = codes "CLIENT_ERROR invalid or duplicate flag"
@@ -26,6 +27,7 @@ fault_text faults.BadInitial = codes "CLIENT_ERROR invalid numeric initial value
 fault_text faults.BadMetaDelta = codes "CLIENT_ERROR invalid numeric delta value"
 fault_text faults.BadSetMode = codes "CLIENT_ERROR invalid mode for ms M token"
 fault_text faults.BadArithmeticMode = codes "CLIENT_ERROR invalid mode for ma M token"
+fault_text faults.BadDetail = codes "CLIENT_ERROR usage: stats detail on|off|dump"
 
 -- what was done, or why not
 abbrev pub reply_text : FixedReply → List ℕ

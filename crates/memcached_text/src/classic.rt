@@ -2,13 +2,13 @@
 ghost use Rattle.std.specs.Prelude.{◌≡◌, ◌+◌, ◌<◌, ◌≤◌, ◌^◌, ◌&&◌, ◌||◌, not, nat_le, nat_lt, ◌==◌, map, length, slice_index_or, []};
 ghost use Rattle.std.specs.Str.{bytes_eq};
 ghost use Rattle.memcached_text.specs.Words.{is_key, is_noreply, word_at};
-ghost use Rattle.memcached_text.specs.Numbers.{number_below, exptime_of};
+ghost use Rattle.memcached_text.specs.Numbers.{number_below, length_of, low_number, exptime_of};
 ghost use Rattle.memcached_text.specs.Classic.{has_words, ends_noreply, fewest_of, cas_of, store_of, delete_noreply, delete_of, delta_of, touch_of, flush_of, verbosity_of, shutdown_of, get_of, get_and_touch_of, delay_of};
 ghost use Rattle.memcached_text.specs.Asked.{shown_or_fault};
 
 use crate::exptime::Exptime;
 use crate::line_error::LineError;
-use crate::numbers::{data_len, expiry, number, small_number};
+use crate::numbers::{data_len, expiry, low_number, number};
 use crate::store_command::StoreCommand;
 use crate::text_request::{DeltaRequest, StoreRequest, TextRequest};
 use crate::verb::Direction;
@@ -77,7 +77,7 @@ pub(crate) fn store_request<'a>(
         return Err(LineError::BadFormat);
     }
     match (
-        small_number(words[2]),
+        low_number(words[2]),
         expiry(words[3]),
         data_len(words[4]),
         cas_unique(mode, words),
@@ -232,11 +232,11 @@ pub(crate) fn flush_request<'a>(words: &[&'a [u8]]) -> Result<TextRequest<'a>, L
 pub(crate) fn verbosity_request<'a>(words: &[&'a [u8]]) -> Result<TextRequest<'a>, LineError>
     ensures { shown_or_fault result ≡ verbosity_of (map (λ w. w.now) words.now) }
 {
-    if !has_words(words, 2, 3) || ends_noreply(words, 1) {
+    if !has_words(words, 2, 3) {
         return Err(LineError::Unknown);
     }
     let noreply = ends_noreply(words, 2);
-    match small_number(words[1]) {
+    match low_number(words[1]) {
         Some(level) => Ok(TextRequest::Verbosity { level, noreply }),
         None => Err(LineError::BadFormat),
     }
@@ -271,7 +271,7 @@ pub(crate) fn get_request<'a>(
     }
 }
 
-/// `gat EXPTIME KEY..` and `gats EXPTIME KEY..`.
+/// `gat EXPTIME KEY..` and `gats EXPTIME KEY..`; without a key they find nothing.
 #[tactic(auto, unfolding(crate::specs::Classic::get_and_touch_of))]
 pub(crate) fn get_and_touch_request<'a>(
     with_cas: bool,
@@ -279,7 +279,7 @@ pub(crate) fn get_and_touch_request<'a>(
 ) -> Result<TextRequest<'a>, LineError>
     ensures { shown_or_fault result ≡ get_and_touch_of with_cas (map (λ w. w.now) words.now) }
 {
-    if words.len() < 3 {
+    if words.len() < 2 {
         return Err(LineError::Unknown);
     }
     match expiry(words[1]) {

@@ -7,6 +7,7 @@
 mod classic;
 mod exptime;
 mod fixed_reply;
+mod laws;
 mod line_error;
 mod line_refusal;
 mod meta;
@@ -25,8 +26,9 @@ mod writing;
 
 pub use exptime::Exptime;
 pub use fixed_reply::FixedReply;
+pub use laws::no_block_is_read;
 pub use line_error::LineError;
-pub use line_refusal::LineRefusal;
+pub use line_refusal::{LineRefusal, RefusedBlock};
 pub use meta_answer::{MetaAnswer, MetaFields, MetaMarks, MetaStatus, Ttl};
 pub use parsing::parse;
 pub use reader_state::ReaderState;

@@ -11,7 +11,7 @@ pub enum LineError {
     BadFormat,
     /// A `delete` with words after the key that it does not have.
     BadDelete,
-    /// The word for the expiry is no number of 32 bits with a sign.
+    /// The word for the expiry is no number of 64 bits with a sign.
     BadExptime,
     /// The word for the amount is no number of 64 bits.
     BadDelta,
@@ -21,8 +21,10 @@ pub enum LineError {
     BadData,
     /// A line has more than 2,048 bytes.
     LineTooLong,
-    /// A meta command has more than 19 words.
+    /// `mg` has more than 19 words.
     TooManyFlags,
+    /// Another meta command has more than 19 words.
+    FlagsTooLong,
     /// A flag of a meta command stands twice.
     DuplicateFlag,
     /// A flag of a meta command is not known.
@@ -43,6 +45,8 @@ pub enum LineError {
     BadSetMode,
     /// The mode of `ma` is none.
     BadArithmeticMode,
+    /// A `stats detail` that is not `on`, `off` or `dump`.
+    BadDetail,
 }
 
 impl LineError {
@@ -61,6 +65,7 @@ impl LineError {
             LineError::BadData => "CLIENT_ERROR bad data chunk",
             LineError::LineTooLong => "CLIENT_ERROR line too long",
             LineError::TooManyFlags => "CLIENT_ERROR options flags are too long",
+            LineError::FlagsTooLong => "CLIENT_ERROR options flags too long",
             LineError::DuplicateFlag => "CLIENT_ERROR duplicate flag",
             LineError::BadFlag => "CLIENT_ERROR invalid flag",
             LineError::BadOrDuplicateFlag => "CLIENT_ERROR invalid or duplicate flag",
@@ -71,6 +76,7 @@ impl LineError {
             LineError::BadMetaDelta => "CLIENT_ERROR invalid numeric delta value",
             LineError::BadSetMode => "CLIENT_ERROR invalid mode for ms M token",
             LineError::BadArithmeticMode => "CLIENT_ERROR invalid mode for ma M token",
+            LineError::BadDetail => "CLIENT_ERROR usage: stats detail on|off|dump",
         }
     }
 }

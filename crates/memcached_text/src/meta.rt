@@ -1,14 +1,15 @@
 // The meta commands that name a key, and their flags.
 ghost use Rattle.std.specs.Prelude.{◌≡◌, ◌+◌, ◌<◌, ◌≤◌, ◌^◌, ◌&&◌, ◌||◌, not, nat_le, nat_lt, ◌==◌, map, option_map, drop, length, slice_index_or, []};
 ghost use Rattle.std.specs.List.{list_any};
-ghost use Rattle.memcached_text.specs.Words.{after_word, is_key};
-ghost use Rattle.memcached_text.specs.Meta.{letter_of, is_among, has_letter, token_of, number_fault, flag_fault, fault_after, place_at, is_before, flag_at, token_at, number_at, exptime_at, first_fault, is_mode_outside, mode_fault, flags_fault, fault_for, unless, first_flag, asking_of, keyed_of, set_of, unless_fault, meta_request_of};
+ghost use Rattle.memcached_text.specs.Words.{words_of, word_at, after_word, is_key};
+ghost use Rattle.memcached_text.specs.Meta.{letter_of, is_among, has_letter, token_of, number_fault, flag_fault, fault_after, place_at, is_before, flag_at, token_at, number_at, exptime_at, weight_of, rank_of, graver, gravest, is_mode_outside, mode_fault, told_of, flags_fault, fault_for, first_of, unless, first_flag, many_fault, meta_refusal, asking_of, keyed_of, set_of, unless_fault, meta_request_of};
+ghost use Rattle.memcached_text.specs.Refusals.{meta_block};
 ghost use Rattle.memcached_text.specs.Asked.{shown_or_refused};
 
 use crate::exptime::Exptime;
 use crate::line_error::LineError;
-use crate::line_refusal::LineRefusal;
-use crate::numbers::{data_len, expiry, number, small_number};
+use crate::line_refusal::{LineRefusal, RefusedBlock};
+use crate::numbers::{data_len, expiry, low_number, number};
 use crate::text_request::{MetaRequest, TextRequest};
 use crate::verb::MetaCommand;
 use crate::words::{after_word, is_key, words_in};
@@ -18,6 +19,12 @@ const MAX_META_WORDS: usize = 19;
 
 /// The most bytes of an opaque token, with its letter.
 const MAX_OPAQUE_LEN: usize = 32;
+
+/// The rank of a fault after which memcached looks no further.
+const FINAL_RANK: u32 = 4;
+
+/// The first letter that memcached takes for one that stands twice.
+const NOT_ASCII: u8 = 127;
 
 /// The flags that are taken whatever follows their letter: base64, proxy hints, what to return, quiet, stale.
 const PLAIN_FLAGS: &[u8] = b"bPLlhkstcfuvqI";
@@ -134,15 +141,17 @@ fn number_fault(letter: u8, token: &[u8]) -> Option<LineError>
     if is_among(letter, b"NTR") {
         unless(expiry(token), LineError::BadToken)
     } else if letter == b'F' {
-        unless(small_number(token), LineError::BadToken)
+        unless(low_number(token), LineError::BadFormat)
     } else if letter == b'C' {
         unless(number(token), LineError::BadToken)
     } else if letter == b'J' {
         unless(number(token), LineError::BadInitial)
     } else if letter == b'D' {
         unless(number(token), LineError::BadMetaDelta)
-    } else {
+    } else if letter < NOT_ASCII {
         Some(LineError::BadFlag)
+    } else {
+        Some(LineError::DuplicateFlag)
     }
 }
 
@@ -183,16 +192,50 @@ fn fault_after(before: &[&[u8]], flag: &[u8]) -> Option<LineError>
     }
 }
 
-/// The fault of the first flag that has one.
-fn first_fault(flags: &[&[u8]]) -> Option<LineError>
-    ensures { result ≡ first_fault [] (map (λ w. w.now) flags.now) }
+/// How a fault ranks among those of other flags.
+fn weight(fault: LineError) -> u32
+    ensures value { result ≡ weight_of fault }
+    ensures range { result ≤ 3 }
 {
-    for at in 0..flags.len() {
-        if let Some(fault) = fault_after(&flags[..at], flags[at]) {
-            return Some(fault);
-        }
+    match fault {
+        LineError::OpaqueTooLong => 0,
+        LineError::BadFormat => 1,
+        LineError::DuplicateFlag => 3,
+        LineError::BadFlag => 3,
+        _ => 2,
     }
-    None
+}
+
+/// The same of a fault that may be none.
+fn rank(fault: Option<LineError>) -> u32
+    ensures { result ≡ rank_of fault }
+{
+    match fault {
+        None => 0,
+        Some(fault) => 1 + weight(fault),
+    }
+}
+
+/// Of two faults, the one that is told. After one of the highest rank memcached looks no further.
+fn graver(told: Option<LineError>, fault: Option<LineError>) -> Option<LineError>
+    ensures { result ≡ graver told fault }
+{
+    if FINAL_RANK <= rank(told) || rank(fault) < rank(told) {
+        told
+    } else {
+        fault
+    }
+}
+
+/// The fault of flags that is told.
+fn gravest_fault(flags: &[&[u8]]) -> Option<LineError>
+    ensures { result ≡ gravest [] None (map (λ w. w.now) flags.now) }
+{
+    let mut told = None;
+    for at in 0..flags.len() {
+        told = graver(told, fault_after(&flags[..at], flags[at]));
+    }
+    told
 }
 
 /// Whether a flag is `M` with a mode that is none of these.
@@ -248,15 +291,37 @@ fn fault_for(command: MetaCommand, fault: LineError) -> LineError
     }
 }
 
+/// The fault that is told, of that of the flags and that of their mode.
+fn told_fault(
+    command: MetaCommand,
+    fault: Option<LineError>,
+    mode: Option<LineError>,
+) -> Option<LineError>
+    ensures { result ≡ told_of command fault mode }
+{
+    match fault {
+        None => mode,
+        Some(fault) if weight(fault) == 0 => first_of(mode, Some(fault)),
+        Some(fault) => Some(fault_for(command, fault)),
+    }
+}
+
+/// The first of two faults.
+fn first_of(one: Option<LineError>, other: Option<LineError>) -> Option<LineError>
+    ensures { result ≡ first_of one other }
+{
+    match one {
+        Some(fault) => Some(fault),
+        None => other,
+    }
+}
+
 /// The fault of a command's flags.
 #[tactic(auto, unfolding(crate::specs::Meta::flags_fault))]
 fn flags_fault(command: MetaCommand, flags: &[&[u8]]) -> Option<LineError>
     ensures { result ≡ flags_fault command (map (λ w. w.now) flags.now) }
 {
-    match first_fault(flags) {
-        Some(fault) => Some(fault_for(command, fault)),
-        None => mode_fault(command, flags),
-    }
+    told_fault(command, gravest_fault(flags), mode_fault(command, flags))
 }
 
 /// How many words stand before a command's flags.
@@ -273,47 +338,75 @@ fn first_flag(command: MetaCommand) -> usize
     }
 }
 
-/// `COMMAND KEY FLAG..` for all but `ms`, by the text of the flags.
-fn keyed_request<'a>(
+/// The data block that follows a meta command's line: the third word of `ms` is its length.
+fn meta_block(command: MetaCommand, words: &[&[u8]]) -> RefusedBlock
+    ensures { result ≡ meta_block command (map (λ w. w.now) words.now) }
+{
+    match command {
+        MetaCommand::Set if words.len() > 2 => RefusedBlock::by(data_len(words[2])),
+        MetaCommand::Set => RefusedBlock::Unreadable,
+        MetaCommand::Get => RefusedBlock::Absent,
+        MetaCommand::Delete => RefusedBlock::Absent,
+        MetaCommand::Arithmetic => RefusedBlock::Absent,
+        MetaCommand::Debug => RefusedBlock::Absent,
+    }
+}
+
+/// The refusal of a meta command's line.
+fn refusal(command: MetaCommand, words: &[&[u8]], fault: LineError) -> LineRefusal
+    ensures { result ≡ meta_refusal command (map (λ w. w.now) words.now) fault }
+{
+    LineRefusal {
+        fault,
+        noreply: false,
+        block: meta_block(command, words),
+    }
+}
+
+/// `COMMAND KEY FLAG..`, by the text of the flags; for `ms` by the length of its data block too, for the others by 0.
+fn flagged_request<'a>(
     command: MetaCommand,
+    len: u32,
     words: &[&'a [u8]],
     flags: &'a [u8],
 ) -> Result<TextRequest<'a>, LineRefusal>
     requires { 2 ≤ length words.now }
-    ensures { shown_or_refused result ≡ keyed_of command (map (λ w. w.now) words.now) flags.now }
+    ensures { shown_or_refused result ≡ unless_fault (flags_fault command (words_of flags.now)) (map (λ w. w.now) words.now)
+        (record { command = command; key = word_at (map (λ w. w.now) words.now) 1; length = len; flags = flags.now }) }
 {
     match flags_fault(command, &words_in(flags)) {
         None => Ok(TextRequest::Meta(MetaRequest {
             command,
             key: words[1],
-            length: 0,
+            length: len,
             flags,
         })),
-        Some(fault) => Err(LineRefusal::loud(fault)),
+        Some(fault) => Err(refusal(command, words, fault)),
     }
 }
 
-/// `ms KEY LENGTH FLAG..`, by the text of the flags. If they have a fault, the data block is to be passed over.
+/// `ms KEY LENGTH FLAG..`, by the text of the flags.
 #[tactic(auto, unfolding(crate::specs::Meta::set_of))]
 fn sized_request<'a>(words: &[&'a [u8]], flags: &'a [u8]) -> Result<TextRequest<'a>, LineRefusal>
     requires { 3 ≤ length words.now }
     ensures { shown_or_refused result ≡ set_of (map (λ w. w.now) words.now) flags.now }
 {
-    let Some(length) = data_len(words[2]) else {
-        return Err(LineRefusal::loud(LineError::BadFormat));
-    };
-    match flags_fault(MetaCommand::Set, &words_in(flags)) {
-        None => Ok(TextRequest::Meta(MetaRequest {
-            command: MetaCommand::Set,
-            key: words[1],
-            length,
-            flags,
-        })),
-        Some(fault) => Err(LineRefusal {
-            fault,
-            noreply: false,
-            skipped: length + 2,
-        }),
+    match data_len(words[2]) {
+        Some(length) => flagged_request(MetaCommand::Set, length, words, flags),
+        None => Err(refusal(MetaCommand::Set, words, LineError::BadFormat)),
+    }
+}
+
+/// The fault of a line with too many words, as the command says it.
+fn many_fault(command: MetaCommand) -> LineError
+    ensures { result ≡ many_fault command }
+{
+    match command {
+        MetaCommand::Get => LineError::TooManyFlags,
+        MetaCommand::Set => LineError::FlagsTooLong,
+        MetaCommand::Delete => LineError::FlagsTooLong,
+        MetaCommand::Arithmetic => LineError::FlagsTooLong,
+        MetaCommand::Debug => LineError::FlagsTooLong,
     }
 }
 
@@ -327,20 +420,20 @@ pub(crate) fn meta_request<'a>(
     ensures { shown_or_refused result ≡ meta_request_of command (map (λ w. w.now) words.now) line.now }
 {
     if words.len() < 2 {
-        return Err(LineRefusal::loud(LineError::Unknown));
+        return Err(refusal(command, words, LineError::Unknown));
     }
     if !is_key(words[1]) || words.len() < first_flag(command) {
-        return Err(LineRefusal::loud(LineError::BadFormat));
+        return Err(refusal(command, words, LineError::BadFormat));
     }
     if words.len() > MAX_META_WORDS {
-        return Err(LineRefusal::loud(LineError::TooManyFlags));
+        return Err(refusal(command, words, many_fault(command)));
     }
     let after_key = after_word(after_word(line));
     match command {
         MetaCommand::Set => sized_request(words, after_word(after_key)),
-        MetaCommand::Get => keyed_request(command, words, after_key),
-        MetaCommand::Delete => keyed_request(command, words, after_key),
-        MetaCommand::Arithmetic => keyed_request(command, words, after_key),
-        MetaCommand::Debug => keyed_request(command, words, after_key),
+        MetaCommand::Get => flagged_request(command, 0, words, after_key),
+        MetaCommand::Delete => flagged_request(command, 0, words, after_key),
+        MetaCommand::Arithmetic => flagged_request(command, 0, words, after_key),
+        MetaCommand::Debug => flagged_request(command, 0, words, after_key),
     }
 }

@@ -1,12 +1,21 @@
-// The numbers of a line: decimal digits, also with leading zeros.
-ghost use Rattle.std.specs.Prelude.{◌≡◌, ◌-◌, ◌^◌, ◌<◌, ◌≤◌, ◌&&◌, nat_le, length, IsTrue};
+// The numbers of a line: decimal digits, also with leading zeros and with a plus sign before them.
+ghost use Rattle.std.specs.Prelude.{◌≡◌, ◌-◌, ◌%◌, ◌^◌, ◌<◌, ◌≤◌, ◌&&◌, nat_lt, nat_le, length, IsTrue};
 ghost use Rattle.std.specs.List.{list_all};
-ghost use Rattle.memcached_text.specs.Numbers.{are_digits, value_of, number_below, exptime_of, past_of, coming_of};
+ghost use Rattle.memcached_text.specs.Numbers.{are_digits, value_of, capped, digits_below, after_plus, number_below, length_of, low_number, moment_of, exptime_of, past_of, coming_of};
 
 use crate::exptime::Exptime;
 
-/// The most digits that are read.
-const MAX_DIGITS: usize = 20;
+/// The first number that has no room in 64 bits.
+const TOO_LARGE: u128 = 0x1_0000_0000_0000_0000;
+
+/// The first number that has no room in 32 bits.
+const LOW: u64 = 0x1_0000_0000;
+
+/// The first number of 64 bits that is negative if its first bit is a sign.
+const NEGATIVE: u64 = 0x8000_0000_0000_0000;
+
+/// The first one of 32 bits.
+const LOW_NEGATIVE: u32 = 0x8000_0000;
 
 /// Whether bytes are digits and nothing else.
 fn are_digits(bytes: &[u8]) -> bool
@@ -15,78 +24,123 @@ fn are_digits(bytes: &[u8]) -> bool
     bytes.iter().all(|b| b'0' <= *b && *b <= b'9')
 }
 
-/// What up to `MAX_DIGITS` digits write.
+/// A number, or the first one without room in 64 bits if it is greater.
+fn capped(number: u128) -> u128
+    ensures { result ≡ capped number }
+{
+    if number < TOO_LARGE {
+        number
+    } else {
+        TOO_LARGE
+    }
+}
+
+/// What digits write, however many they are, or `TOO_LARGE` if that is greater.
 fn value(digits: &[u8]) -> u128
-    requires digits { IsTrue (are_digits digits.now) }
-    requires few { length digits.now ≤ 20 }
-    ensures { result ≡ value_of digits.now }
+    requires { IsTrue (are_digits digits.now) }
+    ensures { result ≡ capped (value_of digits.now) }
 {
     let mut value = 0u128;
     for digit in digits {
-        value = 10 * value + u128::from(*digit - b'0');
+        value = capped(10 * value + u128::from(*digit - b'0'));
     }
     value
 }
 
-/// The number of 64 bits that a word of one to twenty digits writes.
+/// The number of 64 bits that digits write, and nothing but digits.
+fn unsigned(digits: &[u8]) -> Option<u64>
+    ensures { result ≡ digits_below (2 ^ 64) digits.now }
+{
+    if digits.is_empty() || !are_digits(digits) {
+        return None;
+    }
+    u64::try_from(value(digits)).ok()
+}
+
+/// What is left after the plus sign that a word may begin with.
+fn after_plus<'a>(word: &'a [u8]) -> &'a [u8]
+    ensures { result.now ≡ after_plus word.now }
+{
+    if !word.is_empty() && word[0] == b'+' {
+        &word[1..]
+    } else {
+        word
+    }
+}
+
+/// The number of 64 bits that a word writes, with or without a plus sign.
 pub(crate) fn number(word: &[u8]) -> Option<u64>
     ensures { result ≡ number_below (2 ^ 64) word.now }
 {
-    if word.is_empty() || word.len() > MAX_DIGITS || !are_digits(word) {
-        return None;
-    }
-    u64::try_from(value(word)).ok()
+    unsigned(after_plus(word))
 }
 
-/// The number of 32 bits that a word writes.
-pub(crate) fn small_number(word: &[u8]) -> Option<u32>
-    ensures { result ≡ number_below (2 ^ 32) word.now }
+/// The number of 32 bits that a word writes. As with memcached it is the lower half of one of 64 bits.
+#[tactic(auto, unfolding(crate::specs::Numbers::low_number))]
+pub(crate) fn low_number(word: &[u8]) -> Option<u32>
+    ensures { result ≡ low_number word.now }
 {
-    u32::try_from(number(word)?).ok()
+    Some(low(number(word)?))
 }
 
-/// The length of a data block that a word writes.
+// The lower half of a number.
+fn low(number: u64) -> u32
+    ensures { result ≡ number % 2 ^ 32 }
+{
+    (number % LOW) as u32
+}
+
+/// The length of a data block that a word writes: a number of 31 bits. If it is none, nobody can tell where the block ends.
 pub(crate) fn data_len(word: &[u8]) -> Option<u32>
-    ensures { result ≡ number_below (2 ^ 31 - 2) word.now }
+    ensures { result ≡ length_of word.now }
 {
-    let len = small_number(word)?;
-    if len < 0x7fff_fffe { Some(len) } else { None }
+    let len = u32::try_from(number(word)?).ok()?;
+    if len < LOW_NEGATIVE { Some(len) } else { None }
 }
 
-/// The moment that a word of 31 bits and a sign writes.
+/// The moment that a word of 64 bits and a sign writes.
 pub(crate) fn expiry(word: &[u8]) -> Option<Exptime>
     ensures { result ≡ exptime_of word.now }
 {
-    if word.is_empty() {
-        None
-    } else if word[0] == b'-' {
+    if !word.is_empty() && word[0] == b'-' {
         past(&word[1..])
     } else {
         coming(word)
     }
 }
 
-// The moment that the digits after a sign write.
+// The moment that the digits after a minus sign write.
 #[tactic(auto, unfolding(crate::specs::Numbers::past_of))]
 fn past(digits: &[u8]) -> Option<Exptime>
     ensures { result ≡ past_of digits.now }
 {
-    match number(digits) {
+    match unsigned(digits) {
         Some(0) => Some(Exptime::Never),
-        Some(seconds) if seconds <= 0x8000_0000 => Some(Exptime::Past),
+        Some(seconds) if seconds <= NEGATIVE => Some(Exptime::Past),
         _ => None,
     }
 }
 
-// The moment that digits with no sign write.
+// The moment that a word without a minus sign writes: that of its lower 32 bits, as with memcached.
 #[tactic(auto, unfolding(crate::specs::Numbers::coming_of))]
-fn coming(digits: &[u8]) -> Option<Exptime>
-    ensures { result ≡ coming_of digits.now }
+fn coming(word: &[u8]) -> Option<Exptime>
+    ensures { result ≡ coming_of word.now }
 {
-    let number = number(digits)?;
-    match u32::try_from(number) {
-        Ok(0) => Some(Exptime::Never),
-        Ok(seconds) if seconds < 0x8000_0000 => Some(Exptime::At(seconds)),
+    match number(word) {
+        Some(number) if number < NEGATIVE => Some(moment(low(number))),
         _ => None,
+    }
+}
+
+// The moment of 32 bits, of which the first is a sign.
+fn moment(seconds: u32) -> Exptime
+    ensures { result ≡ moment_of seconds }
+{
+    if seconds == 0 {
+        Exptime::Never
+    } else if seconds < LOW_NEGATIVE {
+        Exptime::At(seconds)
+    } else {
+        Exptime::Past
     }
 }

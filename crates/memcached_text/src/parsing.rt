@@ -3,6 +3,7 @@ ghost use Rattle.std.specs.Prelude.{◌≡◌, ◌-◌, ◌&&◌, not, map, leng
 ghost use Rattle.memcached_text.specs.Words.{word_at, is_noreply};
 ghost use Rattle.memcached_text.specs.Requests.{classic_of, request_by, request_of, may_be_quiet, is_unknown, is_last_noreply, or_refusal, is_command, is_version, is_http};
 ghost use Rattle.memcached_text.specs.Asked.{shown_or_fault, shown_or_refused};
+ghost use Rattle.memcached_text.specs.Refusals.{block_after};
 ghost use Rattle.memcached_text.specs.Verbs.{meta_of, verb_of};
 
 use crate::classic::{
@@ -10,8 +11,9 @@ use crate::classic::{
     shutdown_request, store_request, touch_request, verbosity_request,
 };
 use crate::line_error::LineError;
-use crate::line_refusal::LineRefusal;
+use crate::line_refusal::{LineRefusal, RefusedBlock};
 use crate::meta::meta_request;
+use crate::numbers::data_len;
 use crate::text_request::TextRequest;
 use crate::verb::{Verb, named_meta, named_verb};
 use crate::words::{is_noreply, words_in};
@@ -72,12 +74,23 @@ fn classic_request<'a>(verb: Verb, words: &[&'a [u8]]) -> Result<TextRequest<'a>
         Verb::FlushAll => flush_request(words),
         Verb::Stats => Ok(TextRequest::Stats {
             argument: word_at(words, 1),
+            further: word_at(words, 2),
         }),
         Verb::Version => Ok(TextRequest::Version),
         Verb::Verbosity => verbosity_request(words),
         Verb::Quit => Ok(TextRequest::Quit),
         Verb::Shutdown => shutdown_request(words),
         Verb::MetaNoop => Ok(TextRequest::MetaNoop),
+    }
+}
+
+/// The data block that follows a classic command's line: the fifth word of one that stores is its length.
+fn block_after(verb: Verb, words: &[&[u8]]) -> RefusedBlock
+    ensures { result ≡ block_after verb (map (λ w. w.now) words.now) }
+{
+    match verb {
+        Verb::Store(_) => RefusedBlock::by(data_len(word_at(words, 4))),
+        _ => RefusedBlock::Absent,
     }
 }
 
@@ -90,14 +103,14 @@ fn classic_line<'a>(verb: Verb, words: &[&'a [u8]]) -> Result<TextRequest<'a>, L
         Err(fault) => Err(LineRefusal {
             fault,
             noreply: may_be_quiet(verb) && !is_unknown(fault) && is_last_noreply(words),
-            skipped: 0,
+            block: block_after(verb, words),
         }),
     }
 }
 
 /// What a line asks for, given without its end, or why it is refused, with the answer that memcached gives.
 ///
-/// Words stand between spaces, and the first 24 are looked at. A number has at most 20 digits. The keys of
+/// Words stand between spaces, and the first 24 are looked at. A number has 64 bits, and may begin with a plus sign. The keys of
 /// `get`, `gets`, `gat` and `gats` are no part of the request. It takes no memory.
 #[tactic(auto, unfolding(crate::specs::Requests::request_of))]
 pub fn parse<'a>(line: &'a [u8]) -> Result<TextRequest<'a>, LineRefusal>

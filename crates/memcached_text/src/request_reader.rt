@@ -4,13 +4,13 @@ ghost use Rattle.std.specs.List.{position_or_len};
 ghost use Rattle.memcached_text.specs.Asked.{shown, shown_or_refused};
 ghost use Rattle.memcached_text.specs.Requests.{request_of};
 ghost use Rattle.memcached_text.specs.Words.{after_word, is_key};
-ghost use Rattle.memcached_text.specs.Steps.{Outcome, outcome, nothing, is_feed, is_end, without_return, block_step, keys_step, meta_step, asked_step, whole_step, refused_step, long_step, line_by, line_step, key_or, last_key, key_by, key_step, too_long, passing, decided, step_of, events_of, given_list, is_more, event_shown, TellMore, TellRequest, TellRefused};
+ghost use Rattle.memcached_text.specs.Steps.{Outcome, outcome, nothing, is_feed, is_end, without_return, block_step, keys_step, meta_step, asked_step, whole_step, refused_step, after_refusal, long_step, line_by, line_step, key_or, last_key, key_by, key_step, too_long, passing, decided, step_of, events_of, given_list, is_more, event_shown, TellMore, TellRequest, TellRefused};
 ghost use Rattle.memcached_text.specs.Limits.{GivesFlags};
 ghost use Rattle.memcached_text.specs.StepsShown.{outcome_shown, passing_shown};
 
 use crate::exptime::Exptime;
 use crate::line_error::LineError;
-use crate::line_refusal::LineRefusal;
+use crate::line_refusal::{LineRefusal, RefusedBlock};
 use crate::parsing::{is_http, parse};
 use crate::reader_state::ReaderState;
 use crate::stream_event::{StreamEvent, StreamStep};
@@ -175,7 +175,7 @@ fn block_given<'a>(
         let refusal = LineRefusal {
             fault: LineError::BadData,
             noreply,
-            skipped: 0,
+            block: RefusedBlock::Absent,
         };
         return refused_given(past + block_len + 2, refusal, ReaderState::Line);
     }
@@ -263,11 +263,18 @@ fn line_refused<'a>(past: usize, is_http: bool, refusal: LineRefusal) -> Given<'
             state: ReaderState::Closed,
         };
     }
-    refused_given(
-        past,
-        refusal,
-        ReaderState::SkipData(u64::from(refusal.skipped)),
-    )
+    refused_given(past, refusal, after_refusal(refusal.block))
+}
+
+/// Where the reader stands after a refused line.
+fn after_refusal(block: RefusedBlock) -> ReaderState
+    ensures { result ≡ after_refusal block }
+{
+    match block {
+        RefusedBlock::Absent => ReaderState::Line,
+        RefusedBlock::OfLength(length) => ReaderState::SkipData(u64::from(length) + 2),
+        RefusedBlock::Unreadable => ReaderState::Closed,
+    }
 }
 
 /// The first 2,048 bytes of a longer line.

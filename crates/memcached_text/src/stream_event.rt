@@ -26,7 +26,7 @@ pub enum StreamEvent<'a> {
     },
     /// The keys are at their end, and `END` is to be answered.
     KeysEnd,
-    /// A line is refused. After `LineTooLong` the connection is to be closed.
+    /// A line is refused. After `LineTooLong`, and if its data block is `Unreadable`, the connection is to be closed.
     Refused(LineRefusal),
     /// The first byte is that of memcached's binary protocol, or a line is HTTP's. Nothing is answered, and the connection is to be closed.
     Foreign,

@@ -36,9 +36,10 @@ pub enum TextRequest<'a> {
         delay: u32,
         noreply: bool,
     },
-    /// Asks for counts; the argument names which, and is empty for the usual ones.
+    /// Asks for counts; the argument names which, and is empty for the usual ones. The word after it is empty if there is none.
     Stats {
         argument: &'a [u8],
+        further: &'a [u8],
     },
     /// Asks for the server's version.
     Version,

@@ -1,25 +1,24 @@
 -- An answer with a value, or to a meta command, has at most 400 bytes more than the value.
-use Rattle.std.proofs.Common.{◌≡◌, ℕ, ◌+◌, ◌<◌, ◌≤◌, ◌^◌, ◌==◌, ◌||◌, eqb, nat_lt, Bool, true, false, List, [], ◌∷◌, ◌++◌, length, map, if◌then◌else◌, Option, Some, None, refl, sym, ◌∙◌, ap, arith, inl, inr, lit<, lit≤}
-use Rattle.std.specs.Prelude.{IfSome, codes, decimal, cond}
-use Rattle.std.specs.List.{concat, list_any}
+use Rattle.std.proofs.Common.{◌≡◌, ℕ, ◌+◌, ◌<◌, ◌≤◌, ◌^◌, ◌==◌, ◌||◌, nat_lt, Bool, true, false, List, [], ◌∷◌, ◌++◌, length, map, if◌then◌else◌, Option, Some, None, refl, arith, inl, inr, lit<, lit≤}
+use Rattle.std.specs.Prelude.{IfSome, codes, decimal}
+use Rattle.std.specs.List.{concat}
 use Rattle.std.proofs.lemmas.Bool.{cases_Bool, eqb-true, eq-eqb}
 use Rattle.std.proofs.lemmas.Fmt.{length-decimal-le}
 use Rattle.std.proofs.lemmas.List.{length-append}
 use Rattle.std.proofs.lemmas.List.Folds.{list_any-append}
 use borrow.Author.Tests.{ltb-false}
-use Rattle.memcached_text.specs.declared.line_error.LineError.{LineError}
 use Rattle.memcached_text.specs.declared.line_error.LineError.TheVariants.{OpaqueTooLong, DuplicateFlag}
 use Rattle.memcached_text.specs.declared.meta_answer.MetaAnswer.{MetaAnswer}
 use Rattle.memcached_text.specs.declared.meta_answer.MetaFields.{MetaFields}
-use Rattle.memcached_text.specs.declared.meta_answer.MetaMarks.{MetaMarks}
 use Rattle.memcached_text.specs.declared.meta_answer.MetaStatus.{MetaStatus}
 use Rattle.memcached_text.specs.declared.meta_answer.MetaStatus.TheVariants as statuses
 use Rattle.memcached_text.specs.declared.meta_answer.Ttl.{Ttl}
 use Rattle.memcached_text.specs.declared.meta_answer.Ttl.TheVariants.{Unlimited, Seconds}
-use Rattle.memcached_text.specs.Answers.{value_text, number_text, ttl_text, hit_text, said, flag_text, flags_text, marks_text, status_text, block_text, meta_text, line_text}
+use Rattle.memcached_text.specs.Answers.{value_text, number_text, ttl_text, hit_text, said, flag_text, flags_text, status_text, block_text, meta_text, line_text}
 use Rattle.memcached_text.specs.Limits.{AreFlags, IsTtl, AreFields, IsBlockWithin}
-use Rattle.memcached_text.specs.Meta.{letter_of, is_among, has_letter, flag_fault, fault_after, first_of, first_fault}
+use Rattle.memcached_text.specs.Meta.{letter_of, has_letter, flag_fault, fault_after, gravest}
 use Rattle.memcached_text.specs.Words.{words_of}
+use Rattle.memcached_text.proofs.Faults.{none_each}
 
 -- a number of 64 bits has at most 20 digits
 digits_few : (n : ℕ) → n < 2 ^ 64 → length (decimal n) ≤ 20
@@ -183,10 +182,6 @@ flag_few fields are before flag fresh none =
           ]
     ]
 
-first_none : (one other : Option LineError) → first_of one other ≡ None → (one ≡ None) × (other ≡ None)
-first_none None other none = (refl, none)
-first_none (Some fault) other none = cc
-
 after_none : (before : List (List ℕ)) (flag : List ℕ) → fault_after before flag ≡ None → (has_letter (letter_of flag) before ≡ false) × (flag_fault flag ≡ None)
 unfolding fault_after
 after_none before flag none = elim (cases_Bool (has_letter (letter_of flag) before)) [
@@ -194,10 +189,10 @@ after_none before flag none = elim (cases_Bool (has_letter (letter_of flag) befo
   | inr fresh ↦ let own : flag_fault flag ≡ None = rw fresh at none in (fresh, own)
 ]
 
-flags_few : (fields : MetaFields) → AreFields fields → (before flags : List (List ℕ)) → first_fault before flags ≡ None → length (concat (map (flag_text fields) flags)) ≤ budget before
+flags_few : (fields : MetaFields) → AreFields fields → (before flags : List (List ℕ)) → gravest before None flags ≡ None → length (concat (map (flag_text fields) flags)) ≤ budget before
 flags_few fields are before [] none = omega arith
 flags_few fields are before (flag ∷ rest) none =
-    let both = first_none (fault_after before flag) (first_fault (before ++ flag ∷ []) rest) none in
+    let both = none_each before flag rest none in
     let own = after_none before flag both.0 in
     let this = flag_few fields are before flag own.0 own.1 in
     let those = flags_few fields are (before ++ flag ∷ []) rest both.1 in

@@ -17,24 +17,30 @@ fn ask_for(alloc: Global, lines: &[&[u8]], told: &str) -> Result<bool, AllocErro
     Ok(asked(alloc, lines)?.as_str() == told)
 }
 
-static STORING: [&[u8]; 6] = [
+static STORING: [&[u8]; 9] = [
     b"set key 1 2 3",
+    b"set k 4294967303 4294967295 +3",
+    b"set k +5 4294967396 00000000000000000000000003",
+    b"set k 0 -9223372036854775808 0",
     b"cas k 7 0 5 18446744073709551615 noreply",
     b"add k 0 -1 1 noreply",
     b"replace k 0 -0 1 x",
     b"append k 0 9 1",
-    b" prepend   k 4294967295  -2147483648 2147483645 ",
+    b" prepend   k 4294967295  -2147483648 2147483647 ",
 ];
 
 #[test]
 fn storing_lines_have_their_numbers_in_order(rt: HostRuntime) -> Result<(), Fail> {
     let told = "\
         Ok(Store(StoreRequest { mode: Set, key: [107, 101, 121], flags: 1, exptime: At(2), length: 3, cas: 0, noreply: false }))\n\
+        Ok(Store(StoreRequest { mode: Set, key: [107], flags: 7, exptime: Past, length: 3, cas: 0, noreply: false }))\n\
+        Ok(Store(StoreRequest { mode: Set, key: [107], flags: 5, exptime: At(100), length: 3, cas: 0, noreply: false }))\n\
+        Ok(Store(StoreRequest { mode: Set, key: [107], flags: 0, exptime: Past, length: 0, cas: 0, noreply: false }))\n\
         Ok(Store(StoreRequest { mode: Cas, key: [107], flags: 7, exptime: Never, length: 5, cas: 18446744073709551615, noreply: true }))\n\
         Ok(Store(StoreRequest { mode: Add, key: [107], flags: 0, exptime: Past, length: 1, cas: 0, noreply: true }))\n\
         Ok(Store(StoreRequest { mode: Replace, key: [107], flags: 0, exptime: Never, length: 1, cas: 0, noreply: false }))\n\
         Ok(Store(StoreRequest { mode: Append, key: [107], flags: 0, exptime: At(9), length: 1, cas: 0, noreply: false }))\n\
-        Ok(Store(StoreRequest { mode: Prepend, key: [107], flags: 4294967295, exptime: Past, length: 2147483645, cas: 0, noreply: false }))\n";
+        Ok(Store(StoreRequest { mode: Prepend, key: [107], flags: 4294967295, exptime: Past, length: 2147483647, cas: 0, noreply: false }))\n";
     assert!(rt; ask_for(rt.alloc(), &STORING, told)?);
     Ok(())
 }
@@ -72,7 +78,7 @@ static OF_THE_SERVER: [&[u8]; 11] = [
     b"flush_all noreply",
     b"flush_all 30 noreply",
     b"stats",
-    b"stats ab",
+    b"stats ab c d",
     b"version",
     b"verbosity 2 noreply",
     b"quit",
@@ -87,8 +93,8 @@ fn lines_of_the_server_ask_for_what_they_name(rt: HostRuntime) -> Result<(), Fai
         Ok(FlushAll { delay: 0, noreply: false })\n\
         Ok(FlushAll { delay: 0, noreply: true })\n\
         Ok(FlushAll { delay: 30, noreply: true })\n\
-        Ok(Stats { argument: [] })\n\
-        Ok(Stats { argument: [97, 98] })\n\
+        Ok(Stats { argument: [], further: [] })\n\
+        Ok(Stats { argument: [97, 98], further: [99] })\n\
         Ok(Version)\n\
         Ok(Verbosity { level: 2, noreply: true })\n\
         Ok(Quit)\n\
@@ -113,7 +119,7 @@ fn meta_lines_have_a_key_and_flags(rt: HostRuntime) -> Result<(), Fail> {
     Ok(())
 }
 
-static REFUSED: [&[u8]; 8] = [
+static REFUSED: [&[u8]; 13] = [
     b"incr k x noreply",
     b"set k x 0 1 noreply",
     b"incr k x",
@@ -122,6 +128,11 @@ static REFUSED: [&[u8]; 8] = [
     b"ms k 10 !",
     b"ms k x !",
     b"set k x 0 10",
+    b"set k 0 0 noreply",
+    b"cas k 0 0 +5",
+    b"set k 0 0 5 6 7 noreply",
+    b"add k 0 0 4294967301",
+    b"ms k",
 ];
 
 #[test]
@@ -129,14 +140,19 @@ fn refusals_say_whether_they_are_answered_and_what_they_pass_over(
     rt: HostRuntime,
 ) -> Result<(), Fail> {
     let told = "\
-        Err(LineRefusal { fault: BadDelta, noreply: true, skipped: 0 })\n\
-        Err(LineRefusal { fault: BadFormat, noreply: true, skipped: 0 })\n\
-        Err(LineRefusal { fault: BadDelta, noreply: false, skipped: 0 })\n\
-        Err(LineRefusal { fault: BadShutdown, noreply: false, skipped: 0 })\n\
-        Err(LineRefusal { fault: Unknown, noreply: false, skipped: 0 })\n\
-        Err(LineRefusal { fault: BadFlag, noreply: false, skipped: 12 })\n\
-        Err(LineRefusal { fault: BadFormat, noreply: false, skipped: 0 })\n\
-        Err(LineRefusal { fault: BadFormat, noreply: false, skipped: 0 })\n";
+        Err(LineRefusal { fault: BadDelta, noreply: true, block: Absent })\n\
+        Err(LineRefusal { fault: BadFormat, noreply: true, block: OfLength(1) })\n\
+        Err(LineRefusal { fault: BadDelta, noreply: false, block: Absent })\n\
+        Err(LineRefusal { fault: BadShutdown, noreply: false, block: Absent })\n\
+        Err(LineRefusal { fault: Unknown, noreply: false, block: Absent })\n\
+        Err(LineRefusal { fault: BadFlag, noreply: false, block: OfLength(10) })\n\
+        Err(LineRefusal { fault: BadFormat, noreply: false, block: Unreadable })\n\
+        Err(LineRefusal { fault: BadFormat, noreply: false, block: OfLength(10) })\n\
+        Err(LineRefusal { fault: BadFormat, noreply: true, block: Unreadable })\n\
+        Err(LineRefusal { fault: Unknown, noreply: false, block: OfLength(5) })\n\
+        Err(LineRefusal { fault: Unknown, noreply: false, block: OfLength(5) })\n\
+        Err(LineRefusal { fault: BadFormat, noreply: false, block: Unreadable })\n\
+        Err(LineRefusal { fault: BadFormat, noreply: false, block: Unreadable })\n";
     assert!(rt; ask_for(rt.alloc(), &REFUSED, told)?);
     Ok(())
 }

@@ -79,14 +79,14 @@ fn numbers_count_and_expiries_are_kept(rt: HostRuntime) -> Result<(), Fail> {
 }
 
 static OTHERS: &[u8] =
-    b"version\r\nverbosity 1\r\nmn\r\nstats\r\nstats settings\r\nstats reset\r\nstats nothing\r\nflush_all\r\nflush_all 9\r\nbogus\r\nset a 0 0 1\r\nxyz\r\nset a 0 x 1\r\n\r\nshutdown\r\nquit\r\nmn\r\n";
+    b"version\r\nverbosity 1\r\nmn\r\nstats\r\nstats settings\r\nstats reset\r\nstats nothing\r\nstats cachedump 1 0\r\nstats detail on\r\nstats detail off\r\nstats detail dump\r\nstats detail\r\nflush_all\r\nflush_all 9\r\nbogus\r\nset a 0 0 1\r\nxyz\r\nset a 0 x 1\r\ny\r\nshutdown\r\nquit\r\nmn\r\n";
 
 #[test]
 fn commands_of_the_server_are_answered(rt: HostRuntime) -> Result<(), Fail> {
     let client = answers_of(rt.alloc(), OTHERS, OTHERS.len(), false)?;
     assert_eq!(rt;
         client.answers.as_slice(),
-        b"VERSION 1.6.18-kangaroo\r\nOK\r\nMN\r\nEND\r\nEND\r\nRESET\r\nERROR\r\nOK\r\nOK\r\nERROR\r\nCLIENT_ERROR bad data chunk\r\nERROR\r\nCLIENT_ERROR bad command line format\r\nERROR\r\n".as_slice()
+        b"VERSION 1.6.18\r\nOK\r\nMN\r\nEND\r\nEND\r\nRESET\r\nERROR\r\nEND\r\nOK\r\nOK\r\nEND\r\nCLIENT_ERROR usage: stats detail on|off|dump\r\nOK\r\nOK\r\nERROR\r\nCLIENT_ERROR bad data chunk\r\nERROR\r\nCLIENT_ERROR bad command line format\r\n".as_slice()
     );
     assert!(rt; client.is_closed);
     Ok(())

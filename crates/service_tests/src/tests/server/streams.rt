@@ -100,14 +100,29 @@ fn a_stream_gives_the_same_however_it_is_cut(rt: HostRuntime) -> Result<(), Fail
         Key { key: [100], exptime: Some(At(5)), with_cas: true }\n\
         KeysEnd\n\
         TooLarge(Store(StoreRequest { mode: Set, key: [107], flags: 0, exptime: Never, length: 11, cas: 0, noreply: false }))\n\
-        Refused(LineRefusal { fault: BadFlag, noreply: false, skipped: 4 })\n\
+        Refused(LineRefusal { fault: BadFlag, noreply: false, block: OfLength(2) })\n\
         Request(MetaNoop)\n\
-        Refused(LineRefusal { fault: BadData, noreply: false, skipped: 0 })\n\
-        Refused(LineRefusal { fault: Unknown, noreply: false, skipped: 0 })\n\
-        Refused(LineRefusal { fault: Unknown, noreply: false, skipped: 0 })\n\
+        Refused(LineRefusal { fault: BadData, noreply: false, block: Absent })\n\
+        Refused(LineRefusal { fault: Unknown, noreply: false, block: Absent })\n\
+        Refused(LineRefusal { fault: Unknown, noreply: false, block: Absent })\n\
         Request(Quit)\n";
     assert!(rt; has_events(rt.alloc(), stream, 40, told)?);
     assert!(rt; has_events_in(rt.alloc(), stream, 1000, told)?);
+    Ok(())
+}
+
+#[test]
+fn a_block_of_a_refused_line_is_no_request(rt: HostRuntime) -> Result<(), Fail> {
+    let stream =
+        b"set k 0 x 9\r\nflush_all\r\ncas k 0 0 9\r\nflush_all\r\nadd k x 0 9 noreply\r\nflush_all\r\nms k 9 !\r\nflush_all\r\nmn\r\nset k 0 0 4294967305\r\nflush_all\r\n";
+    let told = "\
+        Refused(LineRefusal { fault: BadFormat, noreply: false, block: OfLength(9) })\n\
+        Refused(LineRefusal { fault: Unknown, noreply: false, block: OfLength(9) })\n\
+        Refused(LineRefusal { fault: BadFormat, noreply: true, block: OfLength(9) })\n\
+        Refused(LineRefusal { fault: BadFlag, noreply: false, block: OfLength(9) })\n\
+        Request(MetaNoop)\n\
+        Refused(LineRefusal { fault: BadFormat, noreply: false, block: Unreadable })\n";
+    assert!(rt; has_events(rt.alloc(), stream, 30, told)?);
     Ok(())
 }
 
@@ -122,7 +137,7 @@ fn the_binary_protocol_has_an_event_of_its_own(rt: HostRuntime) -> Result<(), Fa
 fn a_line_of_http_ends_the_stream(rt: HostRuntime) -> Result<(), Fail> {
     let stream = b"PUT / HTTP\r\nmn HTTP/1.1\r\nget HTTP/1.1\r\nDELETE / HTTP/1.0\r\nmn\r\n";
     let told = "\
-        Refused(LineRefusal { fault: Unknown, noreply: false, skipped: 0 })\n\
+        Refused(LineRefusal { fault: Unknown, noreply: false, block: Absent })\n\
         Request(MetaNoop)\n\
         Request(Get { with_cas: false })\n\
         Key { key: [72, 84, 84, 80, 47, 49, 46, 49], exptime: None, with_cas: false }\n\
@@ -152,7 +167,7 @@ fn a_key_of_251_bytes_refuses_the_rest_of_its_line(rt: HostRuntime) -> Result<()
     let told = "\
         Request(Get { with_cas: false })\n\
         Key { key: [97], exptime: None, with_cas: false }\n\
-        Refused(LineRefusal { fault: BadFormat, noreply: false, skipped: 0 })\n\
+        Refused(LineRefusal { fault: BadFormat, noreply: false, block: Absent })\n\
         Request(MetaNoop)\n";
     assert!(rt; has_events(rt.alloc(), &stream, 6, told)?);
     Ok(())
@@ -170,7 +185,7 @@ fn another_line_has_at_most_2048_bytes(rt: HostRuntime) -> Result<(), Fail> {
         )?
     );
     let longer = padded(rt.alloc(), b"version", b' ', 2041, b"\r\nmn\r\n")?;
-    let told = "Refused(LineRefusal { fault: LineTooLong, noreply: false, skipped: 0 })\n";
+    let told = "Refused(LineRefusal { fault: LineTooLong, noreply: false, block: Absent })\n";
     assert!(rt; has_events_in(rt.alloc(), &longer, 700, told)?);
     Ok(())
 }
