@@ -78,7 +78,7 @@
 
 #define KANGAROO_VERSION_MAJOR 1
 #define KANGAROO_VERSION_MINOR 0
-#define KANGAROO_VERSION_PATCH 0
+#define KANGAROO_VERSION_PATCH 1
 #define KANGAROO_VERSION (KANGAROO_VERSION_MAJOR * 1000000 + KANGAROO_VERSION_MINOR * 1000 + KANGAROO_VERSION_PATCH)
 
 #define KANGAROO_KEY_MAX 255      /* bytes of a key, at least 1 */
@@ -150,7 +150,7 @@ KANGAROO_API const char *kangaroo_strerror(kangaroo_status status);
 KANGAROO_API uint32_t kangaroo_version(void);
 
 /* What the library that runs was built from: its version, and in parentheses the commit of its sources, the toolchain,
- * and whether its lanes are proved. An example is "1.0.0 (0123456789ab, rattle-kit-13f logic dac8208d650f15bf, proved)".
+ * and whether its lanes are proved. An example is "1.0.1 (0123456789ab, rattle-kit-13f logic dac8208d650f15bf, proved)".
  * A plus sign after the commit: there were changes that were not committed. One static line, never NULL. */
 KANGAROO_API const char *kangaroo_build(void);
 

@@ -13,7 +13,7 @@ use std::alloc::{AllocError, Global};
 const NAME: &str = "kangaroo";
 
 /// The version that it tells.
-const VERSION: &str = "1.0.0";
+const VERSION: &str = "1.0.1";
 
 /// The program's command line.
 pub fn program<'a>(alloc: Global) -> Result<Command<'a>, AllocError>

@@ -143,7 +143,7 @@ fn what_is_asked(line: &Result<Line, LineFault>) -> Asked {
         Ok(Line::Judge(request)) => judge_asked(request),
         Ok(Line::Show(request)) => show_asked(request),
         Err(LineFault::Usage(text)) if is_usage(text.as_str()) => Asked::Usage,
-        Err(LineFault::Help(text)) if text.as_str() == "kangaroo 1.0.0\n" => Asked::Version,
+        Err(LineFault::Help(text)) if text.as_str() == "kangaroo 1.0.1\n" => Asked::Version,
         Err(LineFault::Help(text)) if text.as_str().contains("Usage: kangaroo <COMMAND>\n") => {
             Asked::Help
         }
