@@ -10,26 +10,66 @@
 #include <sys/stat.h>
 #include <unistd.h>
 
-enum { NAME_BYTES = 32, OWNER_ALONE = 0600 };
+#define LOCK_NAME "kangaroo.lock"
 
-/* Tests that an open file is a plain one. */
-static outcome test_file(int file) {
-    struct stat is;
-    if (fstat(file, &is) != 0) return refused_with(errno);
-    return S_ISREG(is.st_mode) ? outcome_of(KANGAROO_OK) : refused_with(EINVAL);
+enum { OWNER_ALONE = 0600, OF_OTHERS = S_IRWXG | S_IRWXO };
+
+/* Why a file is not taken, by the errno that an open is refused with; 0: it is taken. The owner of somebody else's could
+ * read it, and what is kept by another name would be lost. */
+static int cause_against(const struct stat *is) {
+    if (!S_ISREG(is->st_mode)) return EINVAL;
+    if (is->st_uid != geteuid()) return EPERM;
+    return is->st_nlink > 1 ? EMLINK : 0;
+}
+
+/* Tests an open file, of which nothing was changed yet. Otherwise it is closed. */
+static outcome test_file(int file, struct stat *is) {
+    int cause = fstat(file, is) == 0 ? cause_against(is) : errno;
+    if (cause == 0) return outcome_of(KANGAROO_OK);
+    close(file);
+    return refused_with(cause);
 }
 
 /* Opens a file of the cache, which is made if it is absent. A link is not followed, and a pipe is not waited for. */
-static outcome open_file(int folder, const char *name, int *to) {
+static outcome open_file(int folder, const char *name, int *to, struct stat *is) {
     int flags = O_RDWR | O_CREAT | O_CLOEXEC | O_NOFOLLOW | O_NONBLOCK;
     int file;
     do file = openat(folder, name, flags, OWNER_ALONE);
     while (file < 0 && errno == EINTR);
     if (file < 0) return refused_with(errno);
-    outcome tested = test_file(file);
+    outcome tested = test_file(file, is);
     if (is_done(tested)) *to = file;
-    else close(file);
     return tested;
+}
+
+/* Makes a lane's file anew that others could open until now, since one who has it open would read on. It is refused if
+ * others can open it again: the file system keeps no modes. */
+static outcome replace_file(int folder, const char *name, int *file) {
+    struct stat is;
+    close(*file);
+    *file = NO_FILE;
+    if (unlinkat(folder, name, 0) != 0) return refused_with(errno);
+    outcome opened = open_file(folder, name, file, &is);
+    if (!is_done(opened) || (is.st_mode & OF_OTHERS) == 0) return opened;
+    close(*file);
+    return refused_with(EPERM);
+}
+
+static outcome open_lane_file(int folder, const char *name, int *to) {
+    struct stat is;
+    outcome opened = open_file(folder, name, to, &is);
+    if (!is_done(opened) || (is.st_mode & OF_OTHERS) == 0) return opened;
+    return replace_file(folder, name, to);
+}
+
+/* The lock's file is not made anew: another cache may have it. */
+static outcome open_lock_file(int folder, int *to) {
+    struct stat is;
+    outcome opened = open_file(folder, LOCK_NAME, to, &is);
+    if (!is_done(opened) || (is.st_mode & OF_OTHERS) == 0 || fchmod(*to, OWNER_ALONE) == 0) return opened;
+    outcome refused = refused_with(errno);
+    close(*to);
+    return refused;
 }
 
 /* The lock belongs to the open file and not to the process: so a second cache of this process is refused too, and the
@@ -42,7 +82,7 @@ static outcome take_lock(int file) {
 
 outcome lock_folder(int folder, int *lock_file) {
     int file = NO_FILE;
-    outcome opened = open_file(folder, "kangaroo.lock", &file);
+    outcome opened = open_lock_file(folder, &file);
     if (!is_done(opened)) return opened;
     outcome locked = take_lock(file);
     if (is_done(locked)) *lock_file = file;
@@ -50,13 +90,13 @@ outcome lock_folder(int folder, int *lock_file) {
     return locked;
 }
 
-static void name_of_lane_file(uint32_t number, char name[NAME_BYTES]) {
-    snprintf(name, NAME_BYTES, "kangaroo-%u.dev", (unsigned)number);
+static void name_of_lane_file(uint32_t number, char name[FILE_NAME_BYTES]) {
+    snprintf(name, FILE_NAME_BYTES, "kangaroo-%u.dev", (unsigned)number);
 }
 
 /* Whether a name is that of a lane's file from a number on. A name that only looks like one is left alone. */
 static bool is_lane_file_from(const char *name, uint32_t first) {
-    char spelled[NAME_BYTES];
+    char spelled[FILE_NAME_BYTES];
     unsigned number;
     if (sscanf(name, "kangaroo-%9u", &number) != 1) return false;
     name_of_lane_file(number, spelled);
@@ -111,8 +151,10 @@ static void give_blocks_back(int file) {
 }
 
 /* Says how the pages of a mapping are used. They are asked for one at a time, so the system is not to read ahead. A
- * forked child does not get the mapping, so it cannot write the parent's cache. */
+ * forked child does not get the mapping, so it cannot write the parent's cache. A core dump is to leave them out: a system
+ * that refuses this is no reason not to open. */
 static outcome advise(void *at, size_t bytes) {
+    (void)!madvise(at, bytes, MADV_DONTDUMP);
     bool is_told = madvise(at, bytes, MADV_RANDOM) == 0 && madvise(at, bytes, MADV_DONTFORK) == 0;
     return is_told ? outcome_of(KANGAROO_OK) : refused_with(errno);
 }
@@ -127,10 +169,10 @@ static outcome map_file(int file, size_t bytes, mapping *to) {
 }
 
 outcome map_lane_file(int folder, uint32_t number, size_t bytes, bool is_sparse, mapping *to) {
-    char name[NAME_BYTES];
+    char name[FILE_NAME_BYTES];
     int file = NO_FILE;
     name_of_lane_file(number, name);
-    outcome is = open_file(folder, name, &file);
+    outcome is = open_lane_file(folder, name, &file);
     if (!is_done(is)) return is;
     is = size_file(file, bytes, is_sparse);
     if (is_done(is)) is = map_file(file, bytes, to);
@@ -140,9 +182,35 @@ outcome map_lane_file(int folder, uint32_t number, size_t bytes, bool is_sparse,
 }
 
 void remove_lane_file(int folder, uint32_t number) {
-    char name[NAME_BYTES];
+    char name[FILE_NAME_BYTES];
     name_of_lane_file(number, name);
     unlinkat(folder, name, 0);
+}
+
+/* What speaks against a file of the cache by this name, in words, or NULL. One that others may open is made anew, so it
+ * counts only if that was refused. */
+static const char *words_against(int folder, const char *name, int cause) {
+    struct stat is;
+    if (fstatat(folder, name, &is, AT_SYMLINK_NOFOLLOW) != 0) return NULL;
+    switch (cause_against(&is)) {
+    case EINVAL: return "is no plain file";
+    case EPERM: return "belongs to another user";
+    case EMLINK: return "has another name too";
+    default: return cause == EPERM && (is.st_mode & OF_OTHERS) != 0 ? "can be opened by others" : NULL;
+    }
+}
+
+const char *find_refused_file(const char *path, uint32_t lane_count, int cause, char name[FILE_NAME_BYTES]) {
+    int folder = open(path, O_PATH | O_DIRECTORY | O_CLOEXEC);
+    if (folder < 0) return NULL;
+    strcpy(name, LOCK_NAME);
+    const char *words = words_against(folder, name, cause);
+    for (uint32_t i = 0; words == NULL && i < lane_count; i++) {
+        name_of_lane_file(i, name);
+        words = words_against(folder, name, cause);
+    }
+    close(folder);
+    return words;
 }
 
 void unmap(mapping *file) {

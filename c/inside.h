@@ -20,6 +20,7 @@ enum {
     LANE_ALIGNMENT = 128,    /* two cache lines: processors fetch them in pairs */
     STRUCT_BYTES_MAX = 4096, /* no struct with a size is so long */
     UPKEEP_THREADS_MAX = 16,
+    FILE_NAME_BYTES = 32, /* room for the name of a file of a cache */
     NO_FILE = -1
 };
 
@@ -104,6 +105,9 @@ outcome lock_folder(int folder, int *lock_file);
 outcome remove_files_from(int folder, uint32_t first);
 outcome map_lane_file(int folder, uint32_t number, size_t bytes, bool is_sparse, mapping *to);
 void remove_lane_file(int folder, uint32_t number);
+/* After an open of a cache with so many lanes was refused with this errno: gives the name of the file for which, and says in
+ * words what is wrong with it; or NULL, if it was not for a file. */
+const char *find_refused_file(const char *path, uint32_t lane_count, int cause, char name[FILE_NAME_BYTES]);
 void unmap(mapping *file);
 
 /* tending.c: the upkeep threads, and the queue of lanes that they wait for. */

@@ -233,8 +233,11 @@ KANGAROO_API kangaroo_status kangaroo_sizes_of(const kangaroo_options *options, 
 
 /* Opens an empty cache over files in a folder. The folder must exist. Its files are kangaroo.lock and, one for each
  * lane, kangaroo-0.dev, kangaroo-1.dev and so on, made with mode 0600. What they held is lost: a cache starts cold.
- * Files of these names that a larger cache left are removed; no others are touched. The files must be on storage of
- * this machine. They hold keys and values in the clear. A relative path counts from the working directory of this call.
+ * Files of these names that a larger cache left are removed; no others are touched. One that is there already is taken
+ * only if it is a plain file of the effective user with no other name. If its mode lets others open it, a lane's file
+ * is made anew, and kangaroo.lock gets mode 0600. The files must be on storage of this machine. They hold keys and values
+ * in the clear. They are kept out of core dumps, but values in memory are not. A relative path counts from the working
+ * directory of this call.
  *
  * Takes memory_fixed bytes (kangaroo_sizes_of), maps file_bytes bytes, keeps one descriptor open, starts upkeep_threads
  * threads, draws random numbers from the system, and may block on the device, for seconds if many GiB are reserved. A
@@ -249,8 +252,9 @@ KANGAROO_API kangaroo_status kangaroo_sizes_of(const kangaroo_options *options, 
  *   KANGAROO_IN_USE: a cache of this or another process has the folder, or a forked child of such a process still lives
  *   KANGAROO_SYSTEM: among others ENOENT, ENOTDIR, EACCES, EROFS, ENAMETOOLONG for the folder; ENOSPC, EDQUOT, EFBIG
  *     for the files' length; EMFILE for descriptors; EAGAIN for threads; ENOLCK if the file system has no locks;
- *     EOPNOTSUPP if it cannot reserve blocks (see KANGAROO_SPARSE); ELOOP or EINVAL if a link, or something else that
- *     is no file, has the name of a file of the cache
+ *     EOPNOTSUPP if it cannot reserve blocks (see KANGAROO_SPARSE). Of what has the name of a file of the cache: ELOOP
+ *     or EINVAL for a link, or something else that is no file; EPERM or EACCES for another user's; EMLINK for one with
+ *     another name; EPERM also if others can open it and the file system keeps no modes. It is left as it was
  * Threads may open caches at the same time. */
 KANGAROO_CHECKED KANGAROO_API kangaroo_status kangaroo_open(const kangaroo_options *options, const char *folder,
                                                             kangaroo_cache **cache, int *system_errno);

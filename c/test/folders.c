@@ -109,6 +109,103 @@ static void shows_wrong_files(const char *folder) {
     show("a link or a pipe in the place of a lane's file is refused, and left alone");
 }
 
+/* Makes a file of four bytes with a mode. */
+static void make_file(const char *path, mode_t mode) {
+    int file = open(path, O_CREAT | O_EXCL | O_WRONLY, 0600);
+    expect(write(file, "mine", 4) == 4 && fchmod(file, mode) == 0 && close(file) == 0, "a file of somebody's");
+}
+
+/* Whether a file has its four bytes still. */
+static bool is_untouched(const char *path) {
+    struct stat is;
+    return stat(path, &is) == 0 && is.st_size == 4;
+}
+
+static void shows_files_with_other_names(const char *folder) {
+    kangaroo_options options = small_options();
+    char path[2 * PATH_BYTES], victim[2 * PATH_BYTES];
+    static const char *const names[] = {"kangaroo.lock", "kangaroo-1.dev"};
+    path_in(folder, "mine", victim);
+    make_file(victim, 0600);
+    for (int i = 0; i < 2; i++) {
+        path_in(folder, names[i], path);
+        unlink(path);
+        expect(link(victim, path) == 0, "another name");
+        expect_refused(&options, folder, EMLINK, "a file with another name");
+        expect(is_untouched(victim), "it is left alone");
+        unlink(path);
+    }
+    unlink(victim);
+    show("a file of the cache that has another name too is refused, and left alone: EMLINK");
+}
+
+static void shows_files_of_others(const char *folder) {
+    kangaroo_options options = small_options();
+    char path[2 * PATH_BYTES];
+    static const char *const names[] = {"kangaroo.lock", "kangaroo-1.dev"};
+    for (int i = 0; i < 2; i++) {
+        path_in(folder, names[i], path);
+        unlink(path);
+        make_file(path, 0666);
+        if (chown(path, 65534, 65534) != 0) {
+            unlink(path);
+            show("no file of another user can be made here: not shown");
+            return;
+        }
+        expect_refused(&options, folder, EPERM, "another user's file");
+        expect(is_untouched(path), "it is left alone");
+        unlink(path);
+    }
+    show("another user's file is refused, and left alone: EPERM");
+}
+
+/* Who opened a file while its mode let them has nothing of the cache. */
+static void shows_files_open_to_others(const char *folder) {
+    kangaroo_options options = small_options();
+    char lane[2 * PATH_BYTES], lock[2 * PATH_BYTES];
+    struct stat was, is;
+    path_in(folder, "kangaroo-1.dev", lane);
+    path_in(folder, "kangaroo.lock", lock);
+    unlink(lane), unlink(lock);
+    make_file(lane, 0640);
+    make_file(lock, 0606);
+    int before = open(lane, O_RDONLY);
+    kangaroo_cache *cache = open_with(&options, folder);
+    expect(stat(lane, &is) == 0 && (is.st_mode & 07777) == 0600, "the lane's file has mode 0600");
+    expect(fstat(before, &was) == 0 && was.st_ino != is.st_ino && was.st_nlink == 0 && was.st_size == 4, "it is a new one");
+    expect(stat(lock, &is) == 0 && (is.st_mode & 07777) == 0600, "the lock's file has mode 0600");
+    close_cache(cache);
+    close(before);
+    show("a file that others can open is made anew, the lock's gets mode 0600");
+}
+
+/* Whether the mapping of a file has a flag of the system's. */
+static bool mapping_has_flag(const char *name, const char *flag) {
+    char line[2 * PATH_BYTES];
+    bool is_here = false, has_flag = false;
+    FILE *maps = fopen("/proc/self/smaps", "r");
+    expect(maps != NULL, "the mappings");
+    while (fgets(line, sizeof line, maps) != NULL) {
+        if (strstr(line, name) != NULL) is_here = true;
+        if (strncmp(line, "VmFlags:", 8) != 0) continue;
+        if (is_here && strstr(line, flag) != NULL) has_flag = true;
+        is_here = false;
+    }
+    fclose(maps);
+    return has_flag;
+}
+
+static void shows_dumps(const char *folder) {
+    kangaroo_cache *cache = open_small(folder);
+    for (int i = 0; i < 4; i++) {
+        char name[32];
+        snprintf(name, sizeof name, "/kangaroo-%d.dev", i);
+        expect(mapping_has_flag(name, " dd"), "the file is left out of a core dump");
+    }
+    close_cache(cache);
+    show("the mapped files are left out of core dumps");
+}
+
 static void shows_no_descriptors(const char *folder) {
     kangaroo_options options = small_options();
     struct rlimit before, few;
@@ -165,6 +262,10 @@ int main(void) {
     shows_read_only(folder);
     shows_files(folder);
     shows_wrong_files(folder);
+    shows_files_with_other_names(folder);
+    shows_files_of_others(folder);
+    shows_files_open_to_others(folder);
+    shows_dumps(folder);
     shows_no_descriptors(folder);
     shows_a_small_disk(folder);
     remove_folder(folder);
