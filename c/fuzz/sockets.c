@@ -16,6 +16,7 @@ static void start_server(void) {
     make_folder();
     read_words((int)(sizeof words / sizeof *words) - 1, words, &served.settings);
     options_of_cache(&served.settings, &served.options);
+    start_clock();
     start_numbers(&served.numbers);
     expect(kangaroo_open(&served.options, folder, &served.cache, NULL) == KANGAROO_OK, "a cache");
     expect(start_workers(&served), "a worker");

@@ -176,6 +176,7 @@ static bool watch_all(run *of) {
 /* All that has to go well before clients are served, in order. What went wrong was told. */
 static bool start(run *of) {
     server *it = &of->server;
+    start_clock();
     start_numbers(&it->numbers);
     it->started = moment_now();
     return raise_limit(&it->settings) && open_listeners(it) &&

@@ -90,7 +90,10 @@ typedef struct numbers {
 } numbers;
 
 void start_numbers(numbers *of);
-/* Seconds since 1970. */
+/* Takes the wall clock as it is now. Before any other thread runs. */
+void start_clock(void);
+/* Seconds since 1970: what the wall clock had at start_clock, and what has passed since. So a step of the wall clock changes no
+ * moment. */
 uint64_t moment_now(void);
 
 typedef enum step_end {

@@ -6,14 +6,27 @@
 #include <time.h>
 #include <unistd.h>
 
-enum { THIRTY_DAYS = 60 * 60 * 24 * 30 };
+enum { THIRTY_DAYS = 60 * 60 * 24 * 30, NANOSECONDS = 1000000000 };
 
 /* ------------------------------------------------------------------------------------------------------------ numbers */
 
-uint64_t moment_now(void) {
+/* How far the wall clock was before the time since boot when the server started, in nanoseconds. */
+static int64_t wall_before_boot;
+
+static int64_t nanoseconds_of(clockid_t clock) {
     struct timespec now;
-    clock_gettime(CLOCK_REALTIME_COARSE, &now);
-    return (uint64_t)now.tv_sec;
+    clock_gettime(clock, &now);
+    return (int64_t)now.tv_sec * NANOSECONDS + now.tv_nsec;
+}
+
+void start_clock(void) {
+    wall_before_boot = nanoseconds_of(CLOCK_REALTIME) - nanoseconds_of(CLOCK_BOOTTIME);
+}
+
+/* The time since boot never falls, is one for all threads, goes on while the machine sleeps, and nobody sets it. It is read at
+ * each step: that takes some 30 ns, without a call of the system from Linux 5.3 on. */
+uint64_t moment_now(void) {
+    return (uint64_t)((wall_before_boot + nanoseconds_of(CLOCK_BOOTTIME)) / NANOSECONDS);
 }
 
 /* Numbers begin at the time, in 256ths of a microsecond: so no item has a number that an item had before a restart, unless
