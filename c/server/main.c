@@ -62,6 +62,7 @@ static bool become_daemon(run *of) {
 /* Tells the process that waits how the start went. A daemon that serves lets go of the terminal, unless it is to tell. */
 static void tell_ready(run *of, unsigned char status) {
     if (of->ready == NO_FILE) return;
+    wait_until_told();
     if (status == ENDS_WELL && verbosity() == 0) {
         int null = open("/dev/null", O_RDWR | O_CLOEXEC);
         for (int fd = 0; null >= 0 && fd <= 2; fd++) dup2(null, fd);
@@ -181,7 +182,7 @@ static bool start(run *of) {
     it->started = moment_now();
     return raise_limit(&it->settings) && open_listeners(it) &&
            (it->settings.is_daemon == 0 || told(become_daemon(of), "-d")) && told(open_signals(of), "signals") &&
-           open_pid_file(of) && told(become_user(of), "-u") && open_cache(it) &&
+           told(start_telling(), "standard error") && open_pid_file(of) && told(become_user(of), "-u") && open_cache(it) &&
            told(start_workers(it), "-t") && told(watch_all(of), "epoll");
 }
 
@@ -234,5 +235,6 @@ int main(int count, char **words) {
         tell_systemd("STOPPING=1");
     }
     stop(&all);
+    wait_until_told();
     return is_started ? ENDS_WELL : ENDS_BY_SYSTEM;
 }

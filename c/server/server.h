@@ -41,7 +41,13 @@ enum { TELL_ALWAYS = 0, TELL_FAULTS = 1, TELL_ALL = 2 };
 
 void set_verbosity(unsigned level);
 unsigned verbosity(void);
-/* Writes a line to standard error, in one write, if so much is to be told. */
+/* Has a thread write what is told from now on, so that no thread that serves clients waits for a reader. Call it with signals
+ * blocked. False: the system refused; errno says why. */
+bool start_telling(void);
+/* Waits half a second at most until what was told is written. */
+void wait_until_told(void);
+/* Tells a line on standard error, if so much is to be told. Lines for which there is no room, since nobody reads, are counted,
+ * and the count is told. */
 void tell(unsigned level, const char *format, ...) __attribute__((format(printf, 2, 3)));
 /* Tells the first line of some bytes of a client, with what cannot be printed as dots. */
 void tell_bytes(unsigned level, int fd, char arrow, const void *bytes, size_t length);

@@ -1,15 +1,25 @@
 /* Messages on standard error, and what systemd is told. */
 #define _GNU_SOURCE
 #include "server.h"
+#include <poll.h>
 #include <stdarg.h>
 #include <stdio.h>
 #include <stdlib.h>
 #include <string.h>
 #include <sys/socket.h>
+#include <sys/stat.h>
 #include <sys/un.h>
+#include <time.h>
 #include <unistd.h>
 
-enum { LINE_BYTES = 1024, SHOWN_BYTES = 100 };
+enum {
+    LINE_BYTES = 1024,
+    SHOWN_BYTES = 100,
+    WAITING_BYTES = 1 << 18,
+    AT_ONCE_BYTES = 4096, /* what a pipe takes whole or not at all */
+    STACK_BYTES = 1 << 17,
+    LAST_WAIT_MS = 500
+};
 
 static atomic_uint level_now;
 
@@ -21,6 +31,141 @@ unsigned verbosity(void) {
     return atomic_load_explicit(&level_now, memory_order_relaxed);
 }
 
+/* ----------------------------------------------------------------------------------------------------- lines that wait */
+
+/* Whole lines that wait for the thread that writes them: a ring of bytes. */
+static struct {
+    pthread_mutex_t lock;
+    pthread_cond_t is_wanted, is_empty;
+    atomic_bool has_writer;
+    bool is_writing;
+    size_t first, length;
+    uint64_t lost; /* lines for which there was no room */
+    char bytes[WAITING_BYTES];
+} waiting = {.lock = PTHREAD_MUTEX_INITIALIZER, .is_wanted = PTHREAD_COND_INITIALIZER};
+
+/* Puts a line after those that wait. False: there is no room. The lock is held. */
+static bool put_line(const char *line, size_t length) {
+    if (length > WAITING_BYTES - waiting.length) return false;
+    size_t past = (waiting.first + waiting.length) % WAITING_BYTES, to_end = WAITING_BYTES - past;
+    size_t front = length < to_end ? length : to_end;
+    memcpy(waiting.bytes + past, line, front);
+    memcpy(waiting.bytes, line + front, length - front);
+    waiting.length += length;
+    return true;
+}
+
+/* Says in their place how many lines were lost, once there is room. The lock is held. */
+static void put_lost(void) {
+    char line[LINE_BYTES];
+    if (waiting.lost == 0) return;
+    int length = snprintf(line, sizeof line, "kangarood: %llu lines were not written: nobody read them in time\n",
+                          (unsigned long long)waiting.lost);
+    if (length > 0 && put_line(line, (size_t)length)) waiting.lost = 0;
+}
+
+static void hand_over_line(const char *line, size_t length) {
+    pthread_mutex_lock(&waiting.lock);
+    put_lost();
+    if (waiting.lost != 0 || !put_line(line, length)) waiting.lost++;
+    pthread_cond_signal(&waiting.is_wanted);
+    pthread_mutex_unlock(&waiting.lock);
+}
+
+/* ------------------------------------------------------------------------------------------------ the thread that writes */
+
+/* How many bytes go out at once: whole lines. The lock is held. */
+static size_t length_at_once(void) {
+    size_t length = waiting.length < AT_ONCE_BYTES ? waiting.length : AT_ONCE_BYTES;
+    while (length != waiting.length && waiting.bytes[(waiting.first + length - 1) % WAITING_BYTES] != '\n') length--;
+    return length;
+}
+
+/* Waits for lines, and takes some. */
+static size_t take_lines(char to[AT_ONCE_BYTES]) {
+    pthread_mutex_lock(&waiting.lock);
+    waiting.is_writing = false;
+    if (waiting.length == 0) put_lost();
+    if (waiting.length == 0) pthread_cond_signal(&waiting.is_empty);
+    while (waiting.length == 0) pthread_cond_wait(&waiting.is_wanted, &waiting.lock);
+    size_t length = length_at_once();
+    for (size_t i = 0; i < length; i++) to[i] = waiting.bytes[(waiting.first + i) % WAITING_BYTES];
+    waiting.first = (waiting.first + length) % WAITING_BYTES;
+    waiting.length -= length;
+    waiting.is_writing = true;
+    pthread_mutex_unlock(&waiting.lock);
+    return length;
+}
+
+/* Writes bytes, however long that takes. If the system refuses, they are lost. */
+static void write_all(const char *bytes, size_t length) {
+    struct pollfd room = {.fd = STDERR_FILENO, .events = POLLOUT};
+    while (length != 0) {
+        ssize_t written = write(STDERR_FILENO, bytes, length);
+        if (written < 0 && errno == EAGAIN) poll(&room, 1, -1); /* somebody has said that it is not to wait */
+        else if (written < 0 && errno != EINTR) return;
+        if (written <= 0) continue;
+        bytes += written;
+        length -= (size_t)written;
+    }
+}
+
+static void *write_lines(void *nothing) {
+    char lines[AT_ONCE_BYTES];
+    for (;;) write_all(lines, take_lines(lines));
+    return nothing;
+}
+
+static int start_writer(void) {
+    pthread_t thread;
+    pthread_attr_t how;
+    int refused = pthread_attr_init(&how);
+    if (refused != 0) return refused;
+    pthread_attr_setstacksize(&how, STACK_BYTES);
+    pthread_attr_setdetachstate(&how, PTHREAD_CREATE_DETACHED);
+    refused = pthread_create(&thread, &how, write_lines, NULL);
+    pthread_attr_destroy(&how);
+    return refused;
+}
+
+/* The end of the wait is by a clock that nobody sets. */
+static int init_is_empty(void) {
+    pthread_condattr_t how;
+    int refused = pthread_condattr_init(&how);
+    if (refused != 0) return refused;
+    pthread_condattr_setclock(&how, CLOCK_MONOTONIC);
+    refused = pthread_cond_init(&waiting.is_empty, &how);
+    pthread_condattr_destroy(&how);
+    return refused;
+}
+
+/* A plain file has no reader, so it needs no thread: there a line is written before its client is answered. */
+bool start_telling(void) {
+    struct stat is;
+    if (fstat(STDERR_FILENO, &is) != 0 || S_ISREG(is.st_mode)) return true;
+    int refused = init_is_empty();
+    if (refused == 0) refused = start_writer();
+    atomic_store(&waiting.has_writer, refused == 0);
+    errno = refused;
+    return refused == 0;
+}
+
+void wait_until_told(void) {
+    struct timespec end;
+    int refused = 0;
+    if (!atomic_load(&waiting.has_writer)) return;
+    clock_gettime(CLOCK_MONOTONIC, &end);
+    end.tv_nsec += LAST_WAIT_MS * 1000000;
+    end.tv_sec += end.tv_nsec / 1000000000;
+    end.tv_nsec %= 1000000000;
+    pthread_mutex_lock(&waiting.lock);
+    while (refused == 0 && (waiting.length != 0 || waiting.is_writing || waiting.lost != 0))
+        refused = pthread_cond_timedwait(&waiting.is_empty, &waiting.lock, &end);
+    pthread_mutex_unlock(&waiting.lock);
+}
+
+/* --------------------------------------------------------------------------------------------------------------- telling */
+
 void tell(unsigned level, const char *format, ...) {
     char line[LINE_BYTES];
     va_list rest;
@@ -31,7 +176,8 @@ void tell(unsigned level, const char *format, ...) {
     if (length < 0) return;
     if ((size_t)length > sizeof line - 2) length = (int)sizeof line - 2;
     line[length] = '\n';
-    (void)!write(STDERR_FILENO, line, (size_t)length + 1);
+    if (atomic_load_explicit(&waiting.has_writer, memory_order_acquire)) hand_over_line(line, (size_t)length + 1);
+    else (void)!write(STDERR_FILENO, line, (size_t)length + 1);
 }
 
 void tell_bytes(unsigned level, int fd, char arrow, const void *bytes, size_t length) {

@@ -169,7 +169,7 @@ class Client:
 class Server:
     """kangarood in a new folder, on a Unix socket in it, or where the words say."""
 
-    def __init__(self, *words, environment=None, has_socket=True, under=(), wait=True):
+    def __init__(self, *words, environment=None, has_socket=True, under=(), wait=True, stderr=None):
         self.folder = tempfile.mkdtemp(prefix="kangarood-")
         self.path = f"{self.folder}/socket"
         self.notified = socket.socket(socket.AF_UNIX, socket.SOCK_DGRAM)
@@ -179,7 +179,8 @@ class Server:
         if has_socket:
             self.words += ["-s", self.path]
         more = {"NOTIFY_SOCKET": f"{self.folder}/notify", **(environment or {})}
-        how = {"stdin": subprocess.DEVNULL, "stdout": self.errors, "stderr": self.errors, "env": {**os.environ, **more}}
+        how = {"stdin": subprocess.DEVNULL, "stdout": self.errors, "stderr": self.errors if stderr is None else stderr,
+               "env": {**os.environ, **more}}
         self.process = subprocess.Popen([*under, *self.words], **how)
         self.is_ready = self.wait_ready() if wait else None
 

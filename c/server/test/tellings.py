@@ -1,0 +1,104 @@
+"""Lines on standard error: nobody waits for one who does not read them, and one who reads them gets them all."""
+import os
+import pty
+import re
+import socket
+import threading
+
+from harness import Server, equal, expect, shows, wait_for
+
+ANSWER = b"VALUE a 0 1\r\nx\r\nEND\r\n"
+LINE = re.compile(rb"(kangarood: .*|[<>]\d+ .*)")
+LOST = re.compile(rb"kangarood: (\d+) lines were not written: nobody read them in time")
+
+
+def ends_of(kind):
+    """The two ends of a pipe, of a terminal or of a pair of sockets: the one that is read, and the one for standard error."""
+    if kind == "a pipe":
+        return os.pipe()
+    if kind == "a terminal":
+        return pty.openpty()
+    return [it.detach() for it in socket.socketpair()]
+
+
+def ask_for_lines(client, gets):
+    """Makes a client have each step told, and makes steps."""
+    client.socket.settimeout(10)
+    client.ask(b"set a 0 0 1\r\nx\r\nverbosity 2\r\n", b"STORED\r\nOK\r\n")
+    for _ in range(gets // 500):
+        client.ask(b"get a\r\n" * 500, ANSWER * 500, "gets while nobody reads standard error")
+
+
+def take_lines(end, until):
+    """Reads lines until one is as wanted, or all that there are."""
+    text = b""
+    while not re.search(until, text):
+        more = os.read(end, 1 << 16)
+        if not more:
+            break
+        text += more
+    return text.replace(b"\r\n", b"\n")
+
+
+@shows("standard error that nobody reads, a pipe, a terminal or a socket, stops no client from being served, nor the end; what is lost is counted")
+def nobody_reads():
+    for kind in ("a pipe", "a terminal", "a pair of sockets"):
+        reads, writes = ends_of(kind)
+        it = Server("-t", "2", stderr=writes)
+        os.close(writes)
+        try:
+            expect(it.is_ready, f"it serves, with {kind}")
+            first, other = it.client(), it.client()
+            ask_for_lines(first, 20_000)
+            other.ask(b"get a\r\n", ANSWER, f"another client, with {kind} that nobody reads")
+            other.ask(b"verbosity 0\r\n", b"OK\r\n")
+            text = take_lines(reads, LOST)
+            lines = text.split(b"\n")
+            expect(all(LINE.fullmatch(line) for line in lines[:-1]), f"whole lines, with {kind}")
+            told = len([line for line in lines if line.startswith(b"<") and b" get a" in line])
+            expect(1000 < told < 20_001 and int(LOST.search(text)[1]) > 1000, f"{told} gets were told, with {kind}")
+            ask_for_lines(first, 20_000)
+            equal(it.stop(), 0, f"the status, with {kind} that nobody reads")
+        finally:
+            it.remove()
+            os.close(reads)
+
+
+@shows("who reads standard error gets each line, whole and in order, up to the last")
+def somebody_reads():
+    for kind in ("a pipe", "a pair of sockets"):
+        reads, writes = ends_of(kind)
+        it = Server("-v", stderr=writes)
+        os.close(writes)
+        got = []
+        reader = threading.Thread(target=lambda: got.append(take_lines(reads, rb"ends by .*\n")))
+        reader.start()
+        try:
+            client = it.client()
+            client.ask(b"verbosity 2\r\n", b"OK\r\n")
+            for number in range(1000):
+                client.ask(b"get k%d\r\n" % number, b"END\r\n")
+            equal(it.stop(), 0, "the status")
+            reader.join(10)
+            asked = re.findall(rb"get k(\d+)", got[0])
+            equal([int(number) for number in asked], list(range(1000)), f"the gets that were told, with {kind}")
+            expect(got[0].startswith(b"kangarood: serves\n") and b"kangarood: ends by Terminated\n" in got[0], got[0][-200:])
+        finally:
+            it.remove()
+            reader.join(10)
+            os.close(reads)
+
+
+@shows("lines on standard error that is gone are lost, and clients are served")
+def nobody_is_there():
+    reads, writes = os.pipe()
+    it = Server("-vv", stderr=writes)
+    os.close(writes)
+    os.close(reads)
+    try:
+        client = it.client()
+        client.ask(b"set a 0 0 1\r\nx\r\n" + b"get a\r\n" * 1000, b"STORED\r\n" + ANSWER * 1000)
+        wait_for(lambda: client.stats()["curr_connections"] == "1", "it serves")
+        equal(it.stop(), 0, "the status")
+    finally:
+        it.remove()
