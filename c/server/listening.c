@@ -70,22 +70,66 @@ static bool add_listener(server *of, int fd, const struct sockaddr *address, soc
     return false;
 }
 
-static bool listen_on_file(server *of) {
-    const char *path = of->settings.socket_path;
-    struct sockaddr_un address = {.sun_family = AF_UNIX};
-    struct stat is;
-    if (strlen(path) >= sizeof address.sun_path) {
-        tell(TELL_ALWAYS, "kangarood: -s %s: the path has more than %zu bytes", path, sizeof address.sun_path - 1);
-        return false;
+/* The address of a Unix socket. False: it was told why there is none. */
+static bool address_of_file(const char *path, struct sockaddr_un *to) {
+    *to = (struct sockaddr_un){.sun_family = AF_UNIX};
+    if (strlen(path) < sizeof to->sun_path) {
+        strcpy(to->sun_path, path);
+        return true;
     }
-    strcpy(address.sun_path, path);
-    if (lstat(path, &is) == 0 && S_ISSOCK(is.st_mode)) unlink(path); /* one that a server of before left */
+    tell(TELL_ALWAYS, "kangarood: -s %s: the path has more than %zu bytes", path, sizeof to->sun_path - 1);
+    return false;
+}
+
+/* Connects to a socket, and gives what is wrong with that. */
+static int cause_against_connecting(const struct sockaddr_un *address) {
+    int fd = socket(AF_UNIX, SOCK_STREAM | SOCK_NONBLOCK | SOCK_CLOEXEC, 0), cause = 0;
+    if (fd < 0 || connect(fd, (const struct sockaddr *)address, sizeof *address) != 0) cause = errno;
+    if (fd >= 0) close(fd);
+    return cause;
+}
+
+/* Whether nobody listens at a path: there is nothing, or what a dead server left. Otherwise it is told. What is no socket is
+ * left to bind, which refuses it. */
+static bool is_free(const struct sockaddr_un *address, bool *is_left) {
+    const char *path = address->sun_path;
+    struct stat is;
+    *is_left = lstat(path, &is) == 0 && S_ISSOCK(is.st_mode);
+    int cause = *is_left ? cause_against_connecting(address) : ENOENT;
+    if (cause == ECONNREFUSED || cause == ENOENT) return true;
+    if (cause == 0 || cause == EAGAIN)
+        tell(TELL_ALWAYS, "kangarood: -s %s: another server listens there; end it, or give another file", path);
+    else
+        tell(TELL_ALWAYS, "kangarood: -s %s: nobody knows whether a server has this socket: %s; remove it, or give another file",
+             path, strerror(cause));
+    return false;
+}
+
+/* Makes the socket in place of one that a dead server left. */
+static bool make_socket_file(server *of, const struct sockaddr_un *address, bool is_left) {
+    if (is_left && unlink(address->sun_path) != 0 && errno != ENOENT) return false;
     mode_t before = umask((mode_t)~of->settings.socket_mode & 0777);
     int fd = socket(AF_UNIX, SOCK_STREAM | SOCK_NONBLOCK | SOCK_CLOEXEC, 0);
-    of->made_socket_file = add_listener(of, fd, (struct sockaddr *)&address, sizeof address);
+    bool is_made = add_listener(of, fd, (const struct sockaddr *)address, sizeof *address);
     umask(before);
-    if (!of->made_socket_file) tell(TELL_ALWAYS, "kangarood: -s %s: %s", path, strerror(errno));
-    return of->made_socket_file;
+    return is_made && note_file(&of->socket_file, AT_FDCWD, of->settings.socket_path);
+}
+
+bool open_socket_file(server *of) {
+    const char *path = of->settings.socket_path;
+    struct sockaddr_un address;
+    bool is_left = false;
+    if (path == NULL || of->listener_count != 0) return true;
+    if (!address_of_file(path, &address) || !is_free(&address, &is_left)) return false;
+    if (make_socket_file(of, &address, is_left)) return true;
+    tell(TELL_ALWAYS, "kangarood: -s %s: %s", path, strerror(errno));
+    return false;
+}
+
+static bool look_at_file(const server *of) {
+    struct sockaddr_un address;
+    bool is_left = false;
+    return address_of_file(of->settings.socket_path, &address) && is_free(&address, &is_left);
 }
 
 /* Parts HOST, HOST:PORT, [HOST] or [HOST]:PORT. A HOST with more than one colon and no brackets is an IPv6 one. */
@@ -148,14 +192,14 @@ static bool listen_on_hosts(server *of) {
 bool open_listeners(server *of) {
     int count = handed_over();
     if (count > 0) return take_over(of, count);
-    return of->settings.socket_path != NULL ? listen_on_file(of) : listen_on_hosts(of);
+    return of->settings.socket_path != NULL ? look_at_file(of) : listen_on_hosts(of);
 }
 
+/* The file goes first: while its socket is open no other file gets its number. */
 void close_listeners(server *of) {
+    remove_file(&of->socket_file, 's', of->settings.socket_path);
     for (int i = 0; i < of->listener_count; i++) close(of->listeners[i]);
     of->listener_count = 0;
-    if (of->made_socket_file) unlink(of->settings.socket_path);
-    of->made_socket_file = false;
 }
 
 /* ----------------------------------------------------------------------------------------------------------- accepting */

@@ -20,10 +20,11 @@ enum { OTHER_DESCRIPTORS = 128, EVENTS_AT_ONCE = 16 };
 typedef struct run {
     server server;
     int signals, poll;
-    int ready;    /* the pipe to the process that waits for a daemon to be ready, or NO_FILE */
-    int pid_file; /* or NO_FILE */
-    uid_t user;   /* whom root is to become */
-    gid_t group;
+    int ready; /* the pipe to the process that waits for a daemon to be ready, or NO_FILE */
+    pid_file pid_file;
+    bool has_to_become; /* another user, by -u */
+    uid_t user;
+    gid_t group, own_group;
 } run;
 
 /* ------------------------------------------------------------------------------------------------------------ the process */
@@ -108,52 +109,53 @@ static int find_user(run *of) {
     }
     of->user = user->pw_uid;
     of->group = user->pw_gid;
+    of->own_group = getegid();
+    of->has_to_become = of->user != 0;
     return ENDS_WELL;
 }
 
+/* Acts as the user for a while: the files of the cache are to be the user's. */
+static bool act_as_user(const run *of) {
+    return !of->has_to_become || (setgroups(0, NULL) == 0 && setegid(of->group) == 0 && seteuid(of->user) == 0);
+}
+
+static bool act_as_root(const run *of) {
+    return !of->has_to_become || (seteuid(0) == 0 && setegid(of->own_group) == 0);
+}
+
+/* Becomes the user for good. */
 static bool become_user(const run *of) {
-    if (geteuid() != 0 || of->user == 0) return true;
-    return setgroups(0, NULL) == 0 && setgid(of->group) == 0 && setuid(of->user) == 0;
-}
-
-/* --------------------------------------------------------------------------------------------------------- the pid file */
-
-/* Opens it while we may still be root. */
-static bool open_pid_file(run *of) {
-    const char *path = of->server.settings.pid_file;
-    if (path == NULL) return true;
-    of->pid_file = open(path, O_WRONLY | O_CREAT | O_TRUNC | O_CLOEXEC, 0644);
-    if (of->pid_file >= 0) return true;
-    tell(TELL_ALWAYS, "kangarood: -P %s: %s", path, strerror(errno));
-    return false;
-}
-
-static void write_pid(run *of) {
-    if (of->pid_file == NO_FILE) return;
-    if (dprintf(of->pid_file, "%ld\n", (long)getpid()) < 0)
-        tell(TELL_FAULTS, "kangarood: -P %s: %s", of->server.settings.pid_file, strerror(errno));
-}
-
-static void remove_pid_file(run *of) {
-    if (of->pid_file == NO_FILE) return;
-    close(of->pid_file);
-    if (unlink(of->server.settings.pid_file) != 0) tell(TELL_FAULTS, "kangarood: -P %s: %s", of->server.settings.pid_file, strerror(errno));
+    return !of->has_to_become || (setgroups(0, NULL) == 0 && setgid(of->group) == 0 && setuid(of->user) == 0);
 }
 
 /* ---------------------------------------------------------------------------------------------------------------- start */
 
+/* What to do about a refusal of the cache. */
+static const char *remedy_for(kangaroo_status status, int cause) {
+    if (status == KANGAROO_IN_USE) return "; give each server a --folder of its own";
+    if (status == KANGAROO_NO_MEMORY) return "; give less -m and --flash";
+    if (cause == ENOSPC) return "; give less --flash";
+    return cause == EOPNOTSUPP ? "; this file system reserves no blocks: give --sparse" : "";
+}
+
+static void tell_no_cache(const server *of, kangaroo_status status, int cause) {
+    char name[FILE_NAME_BYTES];
+    const char *folder = of->settings.folder;
+    uint32_t lanes = of->options.shards * of->options.lanes;
+    const char *against = status == KANGAROO_SYSTEM ? find_refused_file(folder, lanes, cause, name) : NULL;
+    if (against != NULL)
+        tell(TELL_ALWAYS, "kangarood: --folder %s: %s %s; remove it, or give a folder that only this user can write", folder,
+             name, against);
+    else
+        tell(TELL_ALWAYS, "kangarood: --folder %s: %s%s", folder, cause != 0 ? strerror(cause) : kangaroo_strerror(status),
+             remedy_for(status, cause));
+}
+
 static bool open_cache(server *of) {
     int cause = 0;
     kangaroo_status status = kangaroo_open(&of->options, of->settings.folder, &of->cache, &cause);
-    if (status == KANGAROO_OK) return true;
-    const char *remedy = status == KANGAROO_IN_USE    ? "; give each server a --folder of its own"
-                         : cause == ENOSPC            ? "; give less --flash"
-                         : cause == EOPNOTSUPP        ? "; this file system reserves no blocks: give --sparse"
-                         : status == KANGAROO_NO_MEMORY ? "; give less -m and --flash"
-                                                      : "";
-    tell(TELL_ALWAYS, "kangarood: --folder %s: %s%s", of->settings.folder,
-         cause != 0 ? strerror(cause) : kangaroo_strerror(status), remedy);
-    return false;
+    if (status != KANGAROO_OK) tell_no_cache(of, status, cause);
+    return status == KANGAROO_OK;
 }
 
 static bool told(bool is_well, const char *what) {
@@ -174,16 +176,29 @@ static bool watch_all(run *of) {
     return is_well;
 }
 
-/* All that has to go well before clients are served, in order. What went wrong was told. */
+/* Opens the cache as the user, and is root again after that. */
+static bool open_cache_as_user(run *of) {
+    bool is_open = told(act_as_user(of), "-u") && open_cache(&of->server);
+    return told(act_as_root(of), "-u") && is_open;
+}
+
+/* All that has to go well before clients are served, in order. What went wrong was told.
+ *
+ * What another server may have is touched last, and only by a start that goes well. First come ports, and sockets that were
+ * handed over: a port in use is refused before a file is made. Then come the cache's files, which have to be the user's, and with
+ * them the folder's lock. Who has it may put a socket's file in the place of a dead server's. The pid file gets its name at the
+ * end. It and the socket may stand in folders of root's, so only then root becomes the user for good. */
 static bool start(run *of) {
     server *it = &of->server;
+    const char *pid_path = it->settings.pid_file;
     start_clock();
     start_numbers(&it->numbers);
     it->started = moment_now();
     return raise_limit(&it->settings) && open_listeners(it) &&
            (it->settings.is_daemon == 0 || told(become_daemon(of), "-d")) && told(open_signals(of), "signals") &&
-           told(start_telling(), "standard error") && open_pid_file(of) && told(become_user(of), "-u") && open_cache(it) &&
-           told(start_workers(it), "-t") && told(watch_all(of), "epoll");
+           told(start_telling(), "standard error") && make_pid_file(&of->pid_file, pid_path) && open_cache_as_user(of) &&
+           open_socket_file(it) && told(start_workers(it), "-t") && told(watch_all(of), "epoll") &&
+           place_pid_file(&of->pid_file, pid_path) && told(become_user(of), "-u");
 }
 
 /* ----------------------------------------------------------------------------------------------------------------- stop */
@@ -194,7 +209,7 @@ static void stop(run *of) {
     stop_workers(it);
     close_listeners(it);
     kangaroo_close(it->cache);
-    remove_pid_file(of);
+    remove_pid_file(&of->pid_file, it->settings.pid_file);
 }
 
 /* Takes a signal. True: the server is to end. */
@@ -220,13 +235,12 @@ static void serve(run *of) {
 }
 
 int main(int count, char **words) {
-    static run all = {.signals = NO_FILE, .poll = NO_FILE, .ready = NO_FILE, .pid_file = NO_FILE};
+    static run all = {.signals = NO_FILE, .poll = NO_FILE, .ready = NO_FILE, .pid_file = {.folder = NO_FILE, .file = NO_FILE}};
     read_words(count, words, &all.server.settings);
     options_of_cache(&all.server.settings, &all.server.options);
     int status = find_user(&all);
     if (status != ENDS_WELL) return status;
     bool is_started = start(&all);
-    if (is_started) write_pid(&all);
     tell_ready(&all, is_started ? ENDS_WELL : ENDS_BY_SYSTEM);
     if (is_started) {
         tell_systemd("READY=1");

@@ -2,6 +2,7 @@
  * ask for, what that does to a lane, and what is answered, is decided by the proved part (session.h). Here are sockets,
  * threads, locks, options and counts. Each file uses only those above it in this list:
  *   telling.c    messages, and what systemd is told
+ *   files.c      the files beside those of the cache: the socket's and the pid file
  *   options.c    the command line
  *   buffers.c    bytes that wait
  *   steps.c      one step of a session, in a hold of its key's lane; cas numbers, and flush_all
@@ -15,6 +16,8 @@
 
 #include "../inside.h"
 #include "../session.h"
+#include <limits.h>
+#include <sys/types.h>
 
 #define SERVED_VERSION "1.6.18-kangaroo" /* in stats, and as the sessions answer version */
 
@@ -53,6 +56,35 @@ void tell(unsigned level, const char *format, ...) __attribute__((format(printf,
 void tell_bytes(unsigned level, int fd, char arrow, const void *bytes, size_t length);
 /* Tells systemd, if it started the program and wants to know. */
 void tell_systemd(const char *state);
+
+/* ---------------------------------------------------------------------------------------------------------- files.c */
+
+/* A file that this process has made, in an open folder or, with AT_FDCWD, by its path. */
+typedef struct own_file {
+    int folder;
+    const char *name; /* NULL: there is none */
+    dev_t device;
+    ino_t number;
+} own_file;
+
+/* Notes which file a name leads to now. False: it was not told; errno says why. */
+bool note_file(own_file *to, int folder, const char *name);
+/* Removes a file if its name still leads to it, and tells why if not; the option and the path are for that. */
+void remove_file(own_file *of, char option, const char *path);
+
+/* The pid file. Until the start has gone well it has another name in its folder. */
+typedef struct pid_file {
+    int folder, file;
+    char name_before[NAME_MAX + 1];
+    own_file own;
+} pid_file;
+
+/* Makes the pid file by a name of its own beside the one that it is to have. False: it was told why not. */
+bool make_pid_file(pid_file *to, const char *path);
+/* Gives it its name, in place of a file or link that has it. False: it was told why not. */
+bool place_pid_file(pid_file *of, const char *path);
+/* Removes it by whichever name it has, if it is there. */
+void remove_pid_file(pid_file *of, const char *path);
 
 /* -------------------------------------------------------------------------------------------------------- options.c */
 
@@ -187,8 +219,11 @@ void stop_workers(server *of);
 
 /* ------------------------------------------------------------------------------------------------------ listening.c */
 
-/* Opens the sockets that the settings name, or takes those that systemd handed over. False: it was told why not. */
+/* Opens the TCP sockets that the settings name, or takes those that systemd handed over, or sees that no other server listens at
+ * the file of a Unix socket. So it does no harm to another server. False: it was told why not. */
 bool open_listeners(server *of);
+/* Opens the Unix socket that the settings name, if they do. False: it was told why not. */
+bool open_socket_file(server *of);
 void close_listeners(server *of);
 /* Accepts what waits at a socket. */
 void accept_all(server *of, int listener);
@@ -207,7 +242,7 @@ struct server {
     int listeners[MOST_LISTENERS];
     int listener_count;
     int spare; /* a descriptor that is given up to accept and refuse a client if there are no more */
-    bool made_socket_file;
+    own_file socket_file;
     unsigned next_worker;
 };
 

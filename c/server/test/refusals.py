@@ -4,9 +4,9 @@ import shutil
 
 from harness import PROGRAM, Server, Skipped, equal, expect, shows, wait_for
 
-# The C library's own look at the users, before the program listens, does not survive refused memory. The second socket is that by
+# The C library's own look at the users, before signals are taken, does not survive refused memory. The second socket is that by
 # which the test is told that the program serves.
-AT_START = [("malloc", " listening", 400), ("epoll_ctl", "", 20), ("epoll_create1", "", 20), ("eventfd", "", 20), ("socket", "", 2),
+AT_START = [("malloc", " starting", 400), ("epoll_ctl", "", 20), ("epoll_create1", "", 20), ("eventfd", "", 20), ("socket", "", 2),
             ("listen", "", 20)]
 WHEN_READY = ["accept4", "recv", "send", "epoll_ctl", "epoll_wait", "malloc"]
 SESSION = b"set r 0 0 1000\r\n" + b"r" * 1000 + b"\r\nget r r r\r\nstats\r\nset half 0 0 100\r\n"

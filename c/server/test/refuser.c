@@ -1,5 +1,5 @@
 /* refuser.c: laid before a program by LD_PRELOAD, it has one call of the system refused. REFUSE is "NAME N": the N-th call of
- * NAME is refused; "NAME N listening": the N-th after the first call of listen; "NAME N ready": the N-th after the program has
+ * NAME is refused; "NAME N starting": the N-th after the first call of signalfd; "NAME N ready": the N-th after the program has
  * told systemd that it is ready. A file REFUSE_MARK is made when a call is refused. */
 #define _GNU_SOURCE
 #include <dlfcn.h>
@@ -11,6 +11,7 @@
 #include <string.h>
 #include <sys/epoll.h>
 #include <sys/eventfd.h>
+#include <sys/signalfd.h>
 #include <sys/socket.h>
 #include <unistd.h>
 
@@ -21,7 +22,7 @@ extern void *__libc_malloc(size_t);
 extern void *__libc_calloc(size_t, size_t);
 extern void *__libc_realloc(void *, size_t);
 
-static atomic_bool is_listening, is_ready;
+static atomic_bool is_starting, is_ready;
 static atomic_long calls;
 
 static void mark(void) {
@@ -35,7 +36,7 @@ static bool refuses(const char *name) {
     const char *wanted = getenv("REFUSE");
     size_t length = strlen(name);
     if (wanted == NULL || strncmp(wanted, name, length) != 0 || wanted[length] != ' ') return false;
-    if (strstr(wanted, " listening") != NULL && !atomic_load(&is_listening)) return false;
+    if (strstr(wanted, " starting") != NULL && !atomic_load(&is_starting)) return false;
     if (strstr(wanted, " ready") != NULL && !atomic_load(&is_ready)) return false;
     if (atomic_fetch_add(&calls, 1) + 1 != atol(wanted + length)) return false;
     mark();
@@ -78,17 +79,14 @@ REFUSABLE(int, epoll_ctl, ENOSPC, (int poll, int how, int fd, struct epoll_event
 REFUSABLE(int, epoll_wait, EINTR, (int poll, struct epoll_event *events, int most, int time), (poll, events, most, time))
 REFUSABLE(int, epoll_create1, EMFILE, (int flags), (flags))
 REFUSABLE(int, eventfd, EMFILE, (unsigned first, int flags), (first, flags))
+REFUSABLE(int, listen, EADDRINUSE, (int fd, int backlog), (fd, backlog))
 REFUSABLE(int, socket, EMFILE, (int domain, int type, int protocol), (domain, type, protocol))
 
-int listen(int fd, int backlog) {
-    static int (*real)(int, int);
-    if (real == NULL) *(void **)&real = dlsym(RTLD_NEXT, "listen");
-    if (refuses("listen")) {
-        errno = EADDRINUSE;
-        return -1;
-    }
-    atomic_store(&is_listening, true);
-    return real(fd, backlog);
+int signalfd(int fd, const sigset_t *set, int flags) {
+    static int (*real)(int, const sigset_t *, int);
+    if (real == NULL) *(void **)&real = dlsym(RTLD_NEXT, "signalfd");
+    atomic_store(&is_starting, true);
+    return real(fd, set, flags);
 }
 
 ssize_t sendto(int fd, const void *from, size_t length, int flags, const struct sockaddr *to, socklen_t to_length) {

@@ -88,6 +88,37 @@ def refused_starts():
     refused_start("-l", "256.1.1.1", has_socket=False, wanted="-l 256.1.1.1: ")
 
 
+def wrong_file(kind, path, victim):
+    """Makes something of somebody's in the place of a file of the cache."""
+    if kind == "is no plain file":
+        os.symlink(victim, path)
+    elif kind == "has another name too":
+        os.link(victim, path)
+    else:
+        pathlib.Path(path).write_text("mine", encoding="ascii")
+        os.chmod(path, 0o666)
+        os.chown(path, 65534, 65534)
+
+
+@shows("a file of the folder that somebody made before, a link, one with two names, another user's, is refused by name, with what to do, and left")
+def files_of_others():
+    kinds = ["is no plain file", "has another name too", *(["belongs to another user"] if os.geteuid() == 0 else [])]
+    for name in ("kangaroo.lock", "kangaroo-3.dev"):
+        for kind in kinds:
+            it = Server(wait=False)
+            it.remove()
+            os.makedirs(it.folder)
+            victim, path = f"{it.folder}/victim", f"{it.folder}/{name}"
+            try:
+                pathlib.Path(victim).write_text("mine", encoding="ascii")
+                wrong_file(kind, path, victim)
+                wanted = f"--folder {it.folder}: {name} {kind}; remove it, or give a folder that only this user can write\n"
+                refused_start("--folder", it.folder, wanted=wanted)
+                equal([pathlib.Path(left).read_text(encoding="ascii") for left in (victim, path)], ["mine", "mine"], "what is left")
+            finally:
+                shutil.rmtree(it.folder)
+
+
 @shows("more clients than the system gives descriptors for are refused at the start, by -c")
 def too_few_descriptors():
     as_other = ("setpriv", "--reuid=65534", "--regid=65534", "--clear-groups") if os.geteuid() == 0 else ()
