@@ -10,6 +10,18 @@
 
 /* -------------------------------------------------------------------------------------------------- what is one's own */
 
+int open_folder_of(const char *path, int flags) {
+    char folder[PATH_MAX];
+    const char *slash = strrchr(path, '/');
+    size_t length = slash == NULL ? 0 : (size_t)(slash - path);
+    if (length >= sizeof folder) {
+        errno = ENAMETOOLONG;
+        return NO_FILE;
+    }
+    snprintf(folder, sizeof folder, "%.*s", (int)length, path);
+    return open(slash == NULL ? "." : slash == path ? "/" : folder, flags | O_DIRECTORY | O_CLOEXEC);
+}
+
 bool note_file(own_file *to, int folder, const char *name) {
     struct stat is;
     if (fstatat(folder, name, &is, AT_SYMLINK_NOFOLLOW) != 0) return false;
@@ -37,19 +49,6 @@ void remove_file(own_file *of, char option, const char *path) {
 static bool refuse_pid_file(const char *path, const char *why) {
     tell(TELL_ALWAYS, "kangarood: -P %s: %s", path, why);
     return false;
-}
-
-/* Opens the folder of a path. */
-static int open_folder_of(const char *path) {
-    char folder[PATH_MAX];
-    const char *slash = strrchr(path, '/');
-    size_t length = slash == NULL ? 0 : (size_t)(slash - path);
-    if (length >= sizeof folder) {
-        errno = ENAMETOOLONG;
-        return NO_FILE;
-    }
-    snprintf(folder, sizeof folder, "%.*s", (int)length, path);
-    return open(slash == NULL ? "." : slash == path ? "/" : folder, O_PATH | O_DIRECTORY | O_CLOEXEC);
 }
 
 static const char *name_in(const char *path) {
@@ -80,7 +79,7 @@ static bool write_pid_file(pid_file *to, const char *name) {
 bool make_pid_file(pid_file *to, const char *path) {
     if (path == NULL) return true;
     const char *name = name_in(path);
-    to->folder = open_folder_of(path);
+    to->folder = open_folder_of(path, O_PATH);
     if (to->folder < 0) return refuse_pid_file(path, strerror(errno));
     if (name[0] == 0 || !may_be_replaced(to, name)) return refuse_pid_file(path, "this is no plain file: give another name");
     return write_pid_file(to, name) || refuse_pid_file(path, strerror(errno));

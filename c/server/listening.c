@@ -8,12 +8,20 @@
 #include <stdio.h>
 #include <stdlib.h>
 #include <string.h>
+#include <sys/file.h>
 #include <sys/socket.h>
 #include <sys/stat.h>
 #include <sys/un.h>
 #include <unistd.h>
 
-enum { FIRST_HANDED_OVER = 3, HOST_BYTES = 256, PORT_BYTES = 16, REFUSED_PAUSE_US = 10000 };
+enum {
+    FIRST_HANDED_OVER = 3,
+    HOST_BYTES = 256,
+    PORT_BYTES = 16,
+    REFUSED_PAUSE_US = 10000,
+    LOCK_TRIES = 200,
+    LOCK_PAUSE_US = 1000
+};
 
 /* --------------------------------------------------------------------------------------------------------- by systemd */
 
@@ -115,15 +123,32 @@ static bool make_socket_file(server *of, const struct sockaddr_un *address, bool
     return is_made && note_file(&of->socket_file, AT_FDCWD, of->settings.socket_path);
 }
 
+/* Has other servers that start wait until this one listens: until then it would seem to be dead. Whoever can read the folder can
+ * have this lock, so a server does not wait for long. */
+static int lock_folder_of(const char *path) {
+    int folder = open_folder_of(path, O_RDONLY);
+    for (int i = 0; folder >= 0 && i < LOCK_TRIES && flock(folder, LOCK_EX | LOCK_NB) != 0; i++) usleep(LOCK_PAUSE_US);
+    return folder;
+}
+
+/* Makes the socket, if no other server listens there. */
+static bool listen_on_file(server *of, const struct sockaddr_un *address) {
+    bool is_left = false;
+    if (!is_free(address, &is_left)) return false;
+    if (make_socket_file(of, address, is_left)) return true;
+    tell(TELL_ALWAYS, "kangarood: -s %s: %s", address->sun_path, strerror(errno));
+    return false;
+}
+
 bool open_socket_file(server *of) {
     const char *path = of->settings.socket_path;
     struct sockaddr_un address;
-    bool is_left = false;
     if (path == NULL || of->listener_count != 0) return true;
-    if (!address_of_file(path, &address) || !is_free(&address, &is_left)) return false;
-    if (make_socket_file(of, &address, is_left)) return true;
-    tell(TELL_ALWAYS, "kangarood: -s %s: %s", path, strerror(errno));
-    return false;
+    if (!address_of_file(path, &address)) return false;
+    int folder = lock_folder_of(path);
+    bool listens = listen_on_file(of, &address);
+    if (folder >= 0) close(folder);
+    return listens;
 }
 
 static bool look_at_file(const server *of) {

@@ -67,6 +67,8 @@ typedef struct own_file {
     ino_t number;
 } own_file;
 
+/* Opens the folder of a path. */
+int open_folder_of(const char *path, int flags);
 /* Notes which file a name leads to now. False: it was not told; errno says why. */
 bool note_file(own_file *to, int folder, const char *name);
 /* Removes a file if its name still leads to it, and tells why if not; the option and the path are for that. */

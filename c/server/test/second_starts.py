@@ -11,7 +11,7 @@ import subprocess
 import tempfile
 import threading
 
-from harness import PATIENCE, PROGRAM, Client, Server, Skipped, equal, expect, free_port, shows, usual_words, wait_for
+from harness import IS_QUICK, PATIENCE, PROGRAM, Client, Server, Skipped, equal, expect, free_port, shows, usual_words, wait_for
 
 ENDS = (signal.SIGTERM, signal.SIGKILL)
 HELLO = (b"set a 0 0 1\r\nx\r\nget a\r\n", b"STORED\r\nVALUE a 0 1\r\nx\r\nEND\r\n")
@@ -95,17 +95,26 @@ def second_starts():
         is_served(("127.0.0.1", port))
 
 
+def start_at_once(words_of_each):
+    """Starts a server for each list of words, all at once."""
+    servers = []
+
+    def start(words):
+        servers.append(Server(*words, has_socket=False))
+
+    threads = [threading.Thread(target=start, args=(words,)) for words in words_of_each]
+    for thread in threads:
+        thread.start()
+    for thread in threads:
+        thread.join()
+    return servers
+
+
 @shows("of many starts at once on one socket, folder and pid file one serves, by all of its files, and the others are refused")
 def many_starts():
     with room() as at, room() as folder:
-        servers = []
-        start = lambda: servers.append(Server(*words_at(at, folder), has_socket=False))  # noqa: E731
-        threads = [threading.Thread(target=start) for _ in range(8)]
+        servers = start_at_once([words_at(at, folder)] * 8)
         try:
-            for thread in threads:
-                thread.start()
-            for thread in threads:
-                thread.join()
             ready = [it for it in servers if it.is_ready]
             equal((len(servers), len(ready)), (8, 1), "how many there are, and how many serve")
             is_served(f"{at}/socket")
@@ -114,6 +123,23 @@ def many_starts():
         finally:
             for it in servers:
                 it.remove()
+
+
+@shows("of many starts at once on what a killed server left of a socket, each with a folder of its own, one serves, and it is reached")
+def many_starts_on_a_dead_socket():
+    for _ in range(3 if IS_QUICK else 20):
+        with room() as at, started("-s", f"{at}/socket") as dead:
+            expect(dead.is_ready, dead.said())
+            dead.stop(signal.SIGKILL)
+            servers = start_at_once([["-s", f"{at}/socket"]] * 8)
+            try:
+                ready = [it for it in servers if it.is_ready]
+                equal((len(servers), len(ready)), (8, 1), "how many there are, and how many serve")
+                client = Client(f"{at}/socket")
+                equal(client.stats()["pid"], str(ready[0].process.pid), "who is reached")
+            finally:
+                for it in servers:
+                    it.remove()
 
 
 @shows("what a killed server left is taken over: its socket, its folder and its pid file")
