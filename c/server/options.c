@@ -1,7 +1,9 @@
 /* The command line: memcached's options where they mean the same, and the cache's own. A wrong one is named, with what to
- * do. An option of memcached's that means nothing here is refused by name, so that nobody believes in it. */
+ * do. Of memcached's other options, those that have no meaning here are taken with a line that says so, and an old command line
+ * starts; those that would change what is promised are refused by name, so that nobody believes in them. */
 #define _GNU_SOURCE
 #include "server.h"
+#include <ctype.h>
 #include <getopt.h>
 #include <stdarg.h>
 #include <stdio.h>
@@ -12,7 +14,7 @@ enum { OBJECT_BYTES_MAX = KANGAROO_KEY_MAX + KANGAROO_VALUE_MAX };
 
 /* ------------------------------------------------------------------------------------------------------- what there is */
 
-typedef enum kind { KIND_NUMBER, KIND_OCTAL, KIND_BYTES, KIND_TEXT, KIND_FLAG, KIND_LIST, KIND_HELP, KIND_VERSION } kind;
+typedef enum kind { KIND_NUMBER, KIND_OCTAL, KIND_BYTES, KIND_TEXT, KIND_TEXTS, KIND_FLAG, KIND_LIST, KIND_HELP, KIND_VERSION } kind;
 
 /* An option that is served. Those without a letter have a number above all letters. */
 typedef struct served {
@@ -27,7 +29,7 @@ typedef struct served {
 #define AT(field) offsetof(settings, field)
 enum { NO_LETTER = 256, FOLDER = NO_LETTER, FLASH, OBJECT_BYTES, ADMIT, THRESHOLD, BRING_BACK, UPKEEP_THREADS, SPARSE };
 static const served options_served[] = {
-    {"listen", 'l', KIND_TEXT, AT(listen), 0, 0, "HOST[:PORT],..", "addresses (127.0.0.1); 0.0.0.0 is every IPv4 one"},
+    {"listen", 'l', KIND_TEXTS, AT(listen), 0, 0, "HOST[:PORT],..", "addresses (127.0.0.1); 0.0.0.0 is every IPv4 one"},
     {"port", 'p', KIND_NUMBER, AT(port), 1, 65535, "N", "TCP port (11211)"},
     {"unix-socket", 's', KIND_TEXT, AT(socket_path), 0, 0, "FILE", "a Unix socket in place of TCP"},
     {"unix-mask", 'a', KIND_OCTAL, AT(socket_mode), 0, 0777, "MODE", "the mode of its file, octal (0700)"},
@@ -58,34 +60,82 @@ static const served options_served[] = {
 };
 enum { SERVED = sizeof options_served / sizeof *options_served };
 
-/* An option of memcached's that is refused, unless its value says that it is off. */
-typedef struct refused {
+/* What becomes of an option of memcached's that is not served. */
+typedef enum fate {
+    FATE_SO,     /* taken: it is so anyway */
+    FATE_LINE,   /* taken, with a line that says why it has no effect */
+    FATE_REFUSED /* the line says what to do */
+} fate;
+
+#define SLABS "there are no slabs"
+#define PROXY_FOR_TLS "TLS is not served: put a proxy with TLS in front, and listen on 127.0.0.1"
+#define LARGEST "a value has at most 2,039 bytes"
+
+/* Such an option. One that is refused is taken if its value is among the words that are allowed. */
+typedef struct foreign {
     const char *name;
     int letter;
     bool has_value;
-    const char *allowed, *remedy;
-} refused;
+    fate fate;
+    const char *said, *allowed;
+} foreign;
 
-static const refused options_refused[] = {
-    {"udp-port", 'U', true, "0", "UDP is not served: leave it out"},
-    {"protocol", 'B', true, "ascii", "the text protocol is served, and no binary one: leave it out, or give ascii"},
-    {"enable-sasl", 'S', false, NULL, "SASL belongs to the binary protocol: use a Unix socket (-s) and its mode (-a), or a proxy"},
-    {"enable-ssl", 'Z', false, NULL, "TLS is not served: put a proxy with TLS in front, and listen on 127.0.0.1"},
-    {"auth-file", 'Y', true, NULL, "there are no passwords: use a Unix socket (-s) and its mode (-a), or a proxy"},
-    {"disable-cas", 'C', false, NULL, "each item has its number: leave it out"},
-    {"max-item-size", 'I', true, NULL, "a value has at most 2,039 bytes: leave it out"},
-    {"slab-min-size", 'n', true, NULL, "there are no slabs: leave it out"},
-    {"slab-growth-factor", 'f', true, NULL, "there are no slabs: leave it out"},
-    {"enable-largepages", 'L', false, NULL, "there are no slabs: leave it out"},
-    {"disable-evictions", 'M', false, NULL, "a cache on flash pushes objects out: leave it out"},
-    {"lock-memory", 'k', false, NULL, "the files on flash are mapped, and would be locked too: leave it out"},
-    {"enable-coredumps", 'r', false, NULL, "use ulimit -c, or LimitCORE= of systemd"},
-    {"max-reqs-per-event", 'R', true, NULL, "a client has its turn for 16 KiB of requests: leave it out"},
-    {"stat-delimiter", 'D', true, NULL, "there are no counts by prefix: leave it out"},
-    {"disable-watch", 'W', false, NULL, "there is no command watch: leave it out"},
-    {"disable-dumping", 'X', false, NULL, "there is no command that dumps: leave it out"},
+static const foreign options_foreign[] = {
+    {"disable-dumping", 'X', false, FATE_SO, NULL, NULL},
+    {"disable-watch", 'W', false, FATE_SO, NULL, NULL},
+    {"slab-growth-factor", 'f', true, FATE_LINE, SLABS, NULL},
+    {"slab-min-size", 'n', true, FATE_LINE, SLABS, NULL},
+    {"enable-largepages", 'L', false, FATE_LINE, SLABS, NULL},
+    {"max-item-size", 'I', true, FATE_LINE, LARGEST, NULL},
+    {"disable-cas", 'C', false, FATE_LINE, "each item keeps its number", NULL},
+    {"lock-memory", 'k', false, FATE_LINE, "memory is not locked, since the files on flash are mapped and would be locked too", NULL},
+    {"enable-coredumps", 'r', false, FATE_LINE, "ulimit -c, or LimitCORE= of systemd, says how large a core dump may be", NULL},
+    {"max-reqs-per-event", 'R', true, FATE_LINE, "a client has its turn for 16 KiB of requests", NULL},
+    {"stat-delimiter", 'D', true, FATE_LINE, "there are no counts by prefix", NULL},
+    {"napi-ids", 'N', true, FATE_LINE, "a new client goes to the thread that has the fewest", NULL},
+    {"udp-port", 'U', true, FATE_REFUSED, "UDP is not served: leave it out", "0"},
+    {"protocol", 'B', true, FATE_REFUSED, "the text protocol is served, and no binary one: leave it out, or give ascii or auto",
+     "ascii auto"},
+    {"enable-sasl", 'S', false, FATE_REFUSED,
+     "SASL belongs to the binary protocol: use a Unix socket (-s) and its mode (-a), or a proxy", NULL},
+    {"enable-ssl", 'Z', false, FATE_REFUSED, PROXY_FOR_TLS, NULL},
+    {"auth-file", 'Y', true, FATE_REFUSED, "there are no passwords: use a Unix socket (-s) and its mode (-a), or a proxy", NULL},
+    {"disable-evictions", 'M', false, FATE_REFUSED,
+     "a cache on flash pushes objects out, and does not answer that it is full: leave it out", NULL},
+    {"memory-file", 'e', true, FATE_REFUSED, "a cache starts empty, also after a restart: leave it out", NULL},
+    {"license", 'i', false, FATE_REFUSED, "no license is printed: --version says what this is", NULL},
 };
-enum { REFUSED = sizeof options_refused / sizeof *options_refused };
+enum { FOREIGN = sizeof options_foreign / sizeof *options_foreign };
+
+/* Words of memcached's -o that have one fate. A name before = needs a value. */
+typedef struct foreign_words {
+    const char *names;
+    fate fate;
+    const char *said;
+} foreign_words;
+
+static const foreign_words words_foreign[] = {
+    {"maxconns_fast modern relaxed_privileges no_drop_privileges no_lru_crawler no_lru_maintainer no_slab_reassign no_slab_automove "
+     "inline_ascii_resp no_inline_ascii_resp resp_obj_mem_limit", FATE_SO, NULL},
+    {"slab_reassign slab_automove slab_automove_ratio= slab_automove_freeratio= slab_automove_window= slab_sizes= slab_chunk_max= "
+     "no_chunked_items", FATE_LINE, SLABS},
+    {"hashpower= hash_algorithm= no_hashexpand", FATE_LINE, "there is no hash table that grows"},
+    {"lru_crawler lru_crawler_sleep= lru_crawler_tocrawl= lru_maintainer hot_lru_pct= warm_lru_pct= hot_max_factor= warm_max_factor= "
+     "tail_repair_time=", FATE_LINE, "there is no LRU list, and nothing that walks it"},
+    {"temporary_ttl=", FATE_LINE, "any item may be pushed out, whenever it expires"},
+    {"watcher_logbuf_size= worker_logbuf_size=", FATE_LINE, "there is no command watch"},
+    {"track_sizes", FATE_LINE, "sizes are not counted"},
+    {"no_modern", FATE_LINE, "there is no older behaviour to go back to"},
+    {"no_maxconns_fast", FATE_LINE, "a client over -c is told so and closed"},
+    {"read_buf_mem_limit=", FATE_LINE, "what a client may cost is limited, and not what all cost together"},
+    {"ext_path= ext_page_size= ext_wbuf_size= ext_threads= ext_io_depth= ext_item_size= ext_item_age= ext_low_ttl= ext_recache_rate= "
+     "ext_compact_under= ext_drop_under= ext_max_sleep= ext_max_frag= ext_drop_unread", FATE_LINE,
+     "give --folder and --flash for the files on flash"},
+    {"ssl_chain_cert= ssl_key= ssl_keyformat= ssl_verify_mode= ssl_ciphers= ssl_ca_cert= ssl_wbuf_size= ssl_session_cache "
+     "ssl_kernel_tls ssl_min_version=", FATE_REFUSED, PROXY_FOR_TLS},
+    {"drop_privileges", FATE_REFUSED, "no call of the system is given up: use SystemCallFilter= of systemd"},
+    {"sock_cookie_id=", FATE_REFUSED, "sockets are not marked: have the firewall filter by port or user"},
+};
 
 /* ------------------------------------------------------------------------------------------------------ what is wrong */
 
@@ -117,6 +167,7 @@ static void print_help(void) {
         snprintf(words, sizeof words, "--%s%s%s", it->name, it->value != NULL ? "=" : "", it->value != NULL ? it->value : "");
         printf("  %s %-28s %s\n", letter, words, it->help);
     }
+    puts("memcached's other options are taken with a line that says why they have no effect, or refused by name");
 }
 
 /* ------------------------------------------------------------------------------------------------------------- values */
@@ -144,46 +195,109 @@ static uint64_t number_of(const served *it, const char *text) {
                  (unsigned long long)it->most);
 }
 
-/* Bytes with a unit, as 512K, 100M, 64G. */
-static uint64_t bytes_of(const served *it, const char *text) {
+/* Reads bytes with a unit, as 512K, 100m, 64G. False: there are none, or too many. */
+static bool read_bytes(const char *text, uint64_t *to) {
     static const char units[] = "KMGT";
     uint64_t number;
     const char *after;
-    if (read_digits(text, 10, &number, &after)) {
-        const char *unit = *after == 0 ? NULL : strchr(units, *after);
-        unsigned shift = unit == NULL ? 0 : 10 * (unsigned)(unit - units + 1);
-        bool ends = unit == NULL ? *after == 0 : after[1] == 0;
-        if (ends && number <= UINT64_MAX >> shift) return number << shift;
-    }
-    end_by_words("%s %s: give a number of bytes, as 512K, 100M, 64G or 2T", spelled(it), text);
+    if (!read_digits(text, 10, &number, &after)) return false;
+    const char *unit = *after == 0 ? NULL : strchr(units, toupper((unsigned char)*after));
+    unsigned shift = unit == NULL ? 0 : 10 * (unsigned)(unit - units + 1);
+    bool ends = unit == NULL ? *after == 0 : after[1] == 0;
+    *to = number << shift;
+    return ends && number <= UINT64_MAX >> shift;
 }
 
-/* What -o of memcached may have, and is so here anyway. */
-static bool is_so_anyway(const char *word) {
-    static const char *const words[] = {"maxconns_fast", "modern", "relaxed_privileges"};
-    for (size_t i = 0; i < sizeof words / sizeof *words; i++)
-        if (strcmp(word, words[i]) == 0) return true;
+static uint64_t bytes_of(const served *it, const char *text) {
+    uint64_t bytes;
+    if (!read_bytes(text, &bytes)) end_by_words("%s %s: give a number of bytes, as 512K, 100M, 64G or 2T", spelled(it), text);
+    return bytes;
+}
+
+/* ------------------------------------------------------------------------------------------- memcached's other options */
+
+/* Whether a list of names has this one; `needs_value` becomes whether it stands there before =. */
+static bool has_name(const char *list, const char *name, bool *needs_value) {
+    size_t length = strlen(name);
+    if (length == 0 || strchr(name, ' ') != NULL) return false;
+    for (const char *at = list; (at = strstr(at, name)) != NULL; at += length) {
+        char after = at[length];
+        *needs_value = after == '=';
+        if ((at == list || at[-1] == ' ') && (after == 0 || after == ' ' || after == '=')) return true;
+    }
     return false;
 }
 
-static void read_extended(char *list, settings *to) {
-    static const char idle[] = "idle_timeout=";
-    static const served idle_seconds = {"extended idle_timeout", NO_LETTER, KIND_NUMBER, 0, 0, 1 << 24, NULL, NULL};
-    for (char *word; (word = strsep(&list, ",")) != NULL;) {
-        if (strncmp(word, idle, sizeof idle - 1) == 0) to->idle_seconds = number_of(&idle_seconds, word + sizeof idle - 1);
-        else if (!is_so_anyway(word)) end_by_words("-o %s: this has no meaning here; -o takes idle_timeout=N", word);
+/* Takes what has this fate, or ends the program. */
+static void meet(fate its, const char *written, const char *said) {
+    if (its == FATE_REFUSED) end_by_words("%s: %s", written, said);
+    if (its == FATE_LINE) tell(TELL_ALWAYS, "kangarood: %s: taken, and without effect: %s", written, said);
+}
+
+/* memcached's -I has at least 1k. One that asks for values that are not stored is not taken. */
+static void check_item_size(const char *value) {
+    uint64_t bytes;
+    if (read_bytes(value, &bytes) && bytes >= 1024 && bytes <= KANGAROO_VALUE_MAX) return;
+    end_by_words("-I %s: give a size from 1k to 2k: " LARGEST, value);
+}
+
+static void take_foreign(const foreign *it, const char *value) {
+    char written[64];
+    bool ignored;
+    if (it->letter == 'I') check_item_size(value);
+    if (it->allowed != NULL && has_name(it->allowed, value, &ignored)) return;
+    snprintf(written, sizeof written, "-%c, --%s", it->letter, it->name);
+    meet(it->fate, written, it->said);
+}
+
+/* Takes a word of -o that is not served, or ends the program. */
+static void take_foreign_word(const char *name, const char *value) {
+    char written[128];
+    snprintf(written, sizeof written, "-o %s", name);
+    for (size_t i = 0; i < sizeof words_foreign / sizeof *words_foreign; i++) {
+        const foreign_words *it = &words_foreign[i];
+        bool needs_value;
+        if (!has_name(it->names, name, &needs_value)) continue;
+        if (needs_value && value == NULL) end_by_words("%s: it needs a value", written);
+        meet(it->fate, written, it->said);
+        return;
     }
+    end_by_words("%s: there is no such word; -o takes idle_timeout=N, and memcached's words", written);
+}
+
+static void read_extended(char *list, settings *to) {
+    static const served idle_seconds = {"extended idle_timeout", NO_LETTER, KIND_NUMBER, 0, 0, 1 << 24, NULL, NULL};
+    for (char *value; (value = strsep(&list, ",")) != NULL;) {
+        const char *name = strsep(&value, "=");
+        if (strcmp(name, "idle_timeout") != 0) take_foreign_word(name, value);
+        else if (value == NULL) end_by_words("-o %s: it needs a value", name);
+        else to->idle_seconds = number_of(&idle_seconds, value);
+    }
+}
+
+/* ------------------------------------------------------------------------------------------------------ what is served */
+
+/* A list, or NULL, and a value more. The list's memory becomes that of the new one. */
+static char *joined(char *list, const char *more) {
+    size_t length = list == NULL ? 0 : strlen(list);
+    char *both = realloc(list, length + strlen(more) + 2);
+    if (both == NULL) {
+        tell(TELL_ALWAYS, "kangarood: -l %s: %s", more, strerror(errno));
+        exit(ENDS_BY_SYSTEM);
+    }
+    if (length != 0) both[length++] = ',';
+    strcpy(both + length, more);
+    return both;
 }
 
 static void take_served(const served *it, char *value, settings *to) {
     void *field = (char *)to + it->at;
+    if (it->value != NULL && *value == 0) end_by_words("%s: its value is empty; give %s", spelled(it), it->value);
     switch (it->kind) {
     case KIND_NUMBER: case KIND_OCTAL: *(uint64_t *)field = number_of(it, value); break;
     case KIND_BYTES: *(uint64_t *)field = bytes_of(it, value); break;
-    case KIND_TEXT:
-        if (*value == 0) end_by_words("%s: its value is empty; give %s", spelled(it), it->value);
-        *(const char **)field = value;
-        break;
+    case KIND_TEXT: *(const char **)field = value; break;
+    case KIND_TEXTS: *(char **)field = joined(*(char **)field, value); break;
     case KIND_FLAG: ++*(uint64_t *)field; break;
     case KIND_LIST: read_extended(value, to); break;
     case KIND_HELP: print_help(); exit(ENDS_WELL);
@@ -193,10 +307,10 @@ static void take_served(const served *it, char *value, settings *to) {
 
 /* -------------------------------------------------------------------------------------------------------- all words */
 
-/* What getopt_long is to know, of options that are served and those that are refused. */
+/* What getopt_long is to know, of options that are served and memcached's others. */
 typedef struct known {
-    struct option longs[SERVED + REFUSED + 1];
-    char letters[3 * (SERVED + REFUSED) + 2];
+    struct option longs[SERVED + FOREIGN + 1];
+    char letters[3 * (SERVED + FOREIGN) + 2];
 } known;
 
 static void know_letter(known *of, int letter, bool has_value) {
@@ -212,8 +326,8 @@ static void know_all(known *of) {
         of->longs[i] = (struct option){it->name, it->value != NULL, NULL, it->letter};
         know_letter(of, it->letter, it->value != NULL);
     }
-    for (size_t i = 0; i < REFUSED; i++) {
-        const refused *it = &options_refused[i];
+    for (size_t i = 0; i < FOREIGN; i++) {
+        const foreign *it = &options_foreign[i];
         of->longs[SERVED + i] = (struct option){it->name, it->has_value, NULL, it->letter};
         know_letter(of, it->letter, it->has_value);
     }
@@ -225,12 +339,8 @@ static void take_option(int letter, char *value, settings *to) {
             take_served(&options_served[i], value, to);
             return;
         }
-    for (size_t i = 0; i < REFUSED; i++) {
-        const refused *it = &options_refused[i];
-        if (it->letter != letter) continue;
-        if (it->allowed != NULL && strcmp(it->allowed, value) == 0) return;
-        end_by_words("-%c, --%s: %s", letter, it->name, it->remedy);
-    }
+    for (size_t i = 0; i < FOREIGN; i++)
+        if (options_foreign[i].letter == letter) take_foreign(&options_foreign[i], value);
 }
 
 static void refuse_pairs(const settings *of) {

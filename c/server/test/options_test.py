@@ -1,4 +1,4 @@
-"""The command line: each wrong word is named, with what to do."""
+"""The command line: each wrong word is named, with what to do; and memcached's options that are not served."""
 import os
 import tempfile
 
@@ -19,8 +19,15 @@ WRONG = [
     (["--admit", "65537"], "--admit 65537: give a number from 0 to 65536"),
     (["--threshold", "33"], "--threshold 33: give a number from 0 to 32"),
     (["--upkeep-threads", "17"], "--upkeep-threads 17: give a number from 0 to 16"),
-    (["-o", "hash_algorithm=murmur3"], "-o hash_algorithm=murmur3: this has no meaning here; -o takes idle_timeout=N"),
+    (["-o", "lru_crawlers"], "-o lru_crawlers: there is no such word; -o takes idle_timeout=N, and memcached's words"),
+    (["-o", "modern,,no_modern"], "-o : there is no such word; -o takes idle_timeout=N, and memcached's words"),
+    (["-o", "modern no_modern"], "-o modern no_modern: there is no such word; -o takes idle_timeout=N, and memcached's words"),
     (["-o", "modern,idle_timeout=soon"], "--extended idle_timeout soon: give a number from 0 to 16777216"),
+    (["-o", "idle_timeout"], "-o idle_timeout: it needs a value"),
+    (["-o", "hashpower"], "-o hashpower: it needs a value"),
+    (["-o", "ext_path"], "-o ext_path: it needs a value"),
+    (["-o", "drop_privileges"], "-o drop_privileges: no call of the system is given up: use SystemCallFilter= of systemd"),
+    (["-o", "sock_cookie_id=1"], "-o sock_cookie_id: sockets are not marked: have the firewall filter by port or user"),
     (["-s", "x", "-p", "1"], "-s: a Unix socket stands in place of TCP: leave -l and -p out, or -s"),
     (["-s", ""], "-s: its value is empty; give FILE"),
     (["-p"], "-p: it needs a value"),
@@ -30,15 +37,20 @@ WRONG = [
     (["--daemon=1"], "--daemon=1: there is no such option, or it takes no value"),
     (["here"], "here: this is no option"),
     (["-U", "11211"], "-U, --udp-port: UDP is not served: leave it out"),
-    (["-B", "binary"], "-B, --protocol: the text protocol is served, and no binary one: leave it out, or give ascii"),
+    (["-U", ""], "-U, --udp-port: UDP is not served: leave it out"),
+    (["-B", "binary"], "-B, --protocol: the text protocol is served, and no binary one: leave it out, or give ascii or auto"),
+    (["-B", "ascii auto"], "-B, --protocol: the text protocol is served, and no binary one: leave it out, or give ascii or auto"),
     (["-S"], "-S, --enable-sasl: SASL belongs to the binary protocol: use a Unix socket (-s) and its mode (-a), or a proxy"),
     (["-Z"], "-Z, --enable-ssl: TLS is not served: put a proxy with TLS in front, and listen on 127.0.0.1"),
     (["-Y", "file"], "-Y, --auth-file: there are no passwords: use a Unix socket (-s) and its mode (-a), or a proxy"),
-    (["-I", "4m"], "-I, --max-item-size: a value has at most 2,039 bytes: leave it out"),
-    (["-f", "1.25"], "-f, --slab-growth-factor: there are no slabs: leave it out"),
-    (["-C"], "-C, --disable-cas: each item has its number: leave it out"),
-    (["-M"], "-M, --disable-evictions: a cache on flash pushes objects out: leave it out"),
-    (["-k"], "-k, --lock-memory: the files on flash are mapped, and would be locked too: leave it out"),
+    (["-M"], "-M, --disable-evictions: a cache on flash pushes objects out, and does not answer that it is full: leave it out"),
+    (["-e", "file"], "-e, --memory-file: a cache starts empty, also after a restart: leave it out"),
+    (["-i"], "-i, --license: no license is printed: --version says what this is"),
+    *[(["-I", size], f"-I {size}: give a size from 1k to 2k: a value has at most 2,039 bytes")
+      for size in ("1023", "2049", "3k", "4m", "1M", "x", "-1", "99999999999999999999g")],
+    *[(["-o", word], f"-o {word.split('=')[0]}: TLS is not served: put a proxy with TLS in front, and listen on 127.0.0.1")
+      for word in ("ssl_chain_cert=x", "ssl_key=x", "ssl_keyformat=PEM", "ssl_verify_mode=0", "ssl_ciphers=x", "ssl_ca_cert=x",
+                   "ssl_wbuf_size=1", "ssl_session_cache", "ssl_kernel_tls", "ssl_min_version=tlsv1.2")],
     (["--flash", "100"], "--flash 100: at least 12,288 bytes"),
 ]
 
@@ -72,9 +84,79 @@ def help_and_version():
     expect(status == 0 and said.startswith("kangarood 1."), said)
 
 
-@shows("-U 0 and -B ascii, which say what is so anyway, are taken")
-def what_is_so():
+SLABS = "there are no slabs"
+HASH = "there is no hash table that grows"
+LRU = "there is no LRU list, and nothing that walks it"
+WATCH = "there is no command watch"
+FILES = "give --folder and --flash for the files on flash"
+# What is taken without effect: the words, how the line names them, and what it says.
+TAKEN = [
+    (["-f", "1.25"], "-f, --slab-growth-factor", SLABS),
+    (["-n", "48"], "-n, --slab-min-size", SLABS),
+    (["-L"], "-L, --enable-largepages", SLABS),
+    (["-I", "1k"], "-I, --max-item-size", "a value has at most 2,039 bytes"),
+    (["-I", "2048"], "-I, --max-item-size", "a value has at most 2,039 bytes"),
+    (["--max-item-size=2K"], "-I, --max-item-size", "a value has at most 2,039 bytes"),
+    (["-C"], "-C, --disable-cas", "each item keeps its number"),
+    (["-k"], "-k, --lock-memory", "memory is not locked, since the files on flash are mapped and would be locked too"),
+    (["-r"], "-r, --enable-coredumps", "ulimit -c, or LimitCORE= of systemd, says how large a core dump may be"),
+    (["-R", "20"], "-R, --max-reqs-per-event", "a client has its turn for 16 KiB of requests"),
+    (["-D", ":"], "-D, --stat-delimiter", "there are no counts by prefix"),
+    (["-N", "2"], "-N, --napi-ids", "a new client goes to the thread that has the fewest"),
+    *[(["-o", word], f"-o {word.split('=')[0]}", said) for said, words in [
+        (SLABS, "slab_reassign slab_automove slab_automove=2 slab_automove_ratio=0.8 slab_automove_freeratio=0.01 slab_automove_window=3 "
+                "slab_sizes=8-16 slab_chunk_max=512 no_chunked_items"),
+        (HASH, "hashpower=16 hash_algorithm=murmur3 no_hashexpand"),
+        (LRU, "lru_crawler lru_crawler_sleep=100 lru_crawler_tocrawl=0 lru_maintainer hot_lru_pct=20 warm_lru_pct=40 hot_max_factor=0.2 "
+              "warm_max_factor=2 tail_repair_time=60"),
+        ("any item may be pushed out, whenever it expires", "temporary_ttl=61"),
+        (WATCH, "watcher_logbuf_size=256 worker_logbuf_size=64"),
+        ("sizes are not counted", "track_sizes"),
+        ("there is no older behaviour to go back to", "no_modern"),
+        ("a client over -c is told so and closed", "no_maxconns_fast"),
+        ("what a client may cost is limited, and not what all cost together", "read_buf_mem_limit=1"),
+        (FILES, "ext_path=/x:1G ext_page_size=8 ext_wbuf_size=2 ext_threads=1 ext_io_depth=2 ext_item_size=512 ext_item_age=2 ext_low_ttl=60 "
+                "ext_recache_rate=10000 ext_compact_under=1 ext_drop_under=1 ext_max_sleep=100000 ext_max_frag=0.9 ext_drop_unread"),
+    ] for word in words.split()],
+]
+# What is taken in silence: it is so anyway.
+SO_ANYWAY = [
+    ["-U", "0"], ["-B", "ascii"], ["-B", "auto"], ["--protocol=auto"], ["-X"], ["-W"], ["--disable-dumping", "--disable-watch"],
+    *[["-o", word] for word in ("maxconns_fast", "modern", "relaxed_privileges", "no_drop_privileges", "no_lru_crawler", "no_lru_maintainer",
+                                "no_slab_reassign", "no_slab_automove", "inline_ascii_resp", "no_inline_ascii_resp", "resp_obj_mem_limit=1",
+                                "idle_timeout=0", "modern,maxconns_fast")],
+]
+
+
+def said_of_taken(*words):
+    """What a server says of words that it takes: before it says that its folder is not there."""
     with tempfile.TemporaryDirectory() as folder:
         root = ["-u", "root"] if os.geteuid() == 0 else []
-        status, said = run_words("-U", "0", "-B", "ascii", "-o", "modern", "--folder", f"{folder}/none", "-s", f"{folder}/s", *root)
-        equal((status, said), (71, f"kangarood: --folder {folder}/none: No such file or directory\n"), "the folder is what is wrong")
+        status, said = run_words(*words, "--folder", f"{folder}/none", "-s", f"{folder}/s", *root)
+        end = f"kangarood: --folder {folder}/none: No such file or directory\n"
+        expect(status == 71 and said.endswith(end), f"{words}: status {status}, and it said {said!r}")
+        return said[: -len(end)]
+
+
+@shows(f"{len(TAKEN)} options of memcached's that have no meaning here are taken, each with a line that says why")
+def taken_with_line():
+    for words, name, why in TAKEN:
+        equal(said_of_taken(*words), f"kangarood: {name}: taken, and without effect: {why}\n", f"what {words} say")
+    both = said_of_taken("-f", "2", "-o", "no_modern,idle_timeout=5,lru_maintainer", "-k")
+    equal([line.split(":")[1] for line in both.splitlines()], [" -f, --slab-growth-factor", " -o no_modern", " -o lru_maintainer", " -k, --lock-memory"],
+          "a line each")
+
+
+@shows(f"{len(SO_ANYWAY)} options of memcached's that say what is so anyway are taken in silence")
+def what_is_so():
+    for words in SO_ANYWAY:
+        equal(said_of_taken(*words), "", f"what {words} say")
+
+
+@shows("each letter that memcached -h lists is known")
+def letters_of_memcached():
+    with tempfile.TemporaryDirectory() as folder:
+        for letter in "pUsaAldrumMckvhiVPfnLDtRCbBISFXWYeZoN":
+            value = [f"{folder}/1"] if letter in "pUsalumcPfnDtRbBIYeoN" else []
+            said = run_words(f"-{letter}", *value, "--folder", f"{folder}/none")[1]
+            expect("no such option" not in said and "needs a value" not in said, f"-{letter} {value}: it said {said!r}")
