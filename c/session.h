@@ -47,7 +47,9 @@ typedef enum ks_stats {
     KS_STATS_SLABS = 4,    /* stats slabs */
     KS_STATS_SIZES = 5,    /* stats sizes */
     KS_STATS_RESET = 6,    /* stats reset: the server sets its counts to 0, and writes no line */
-    KS_STATS_UNKNOWN = 7   /* any other word: the server writes no line, and the step answers ERROR */
+    KS_STATS_UNKNOWN = 7,  /* any other word: the server writes no line, and the step answers ERROR */
+    KS_STATS_CACHEDUMP = 8, /* stats cachedump: the server writes no line, since no list of items is kept */
+    KS_STATS_DETAIL = 9     /* stats detail on, off or dump: the server writes no line; the step answers OK, or ends no lines */
 } ks_stats;
 
 typedef struct ks_wanted {

@@ -19,7 +19,7 @@
 #include <limits.h>
 #include <sys/types.h>
 
-#define SERVED_VERSION "1.6.18-kangaroo" /* in stats, and as the sessions answer version */
+#define SERVED_VERSION "1.6.18" /* of memcached: in stats, and as the sessions answer version */
 
 enum {
     READ_BYTES = 16384,      /* read at once from a client */
@@ -239,6 +239,7 @@ struct server {
     worker *workers;
     uint64_t started; /* seconds since 1970 */
     counts at_reset;  /* what was counted when stats reset was last asked for */
+    atomic_uint_least64_t evicted_at_reset, expired_at_reset;
     atomic_bool is_stopping;
     atomic_uint_least64_t curr_conns, total_conns, rejected_conns;
     int listeners[MOST_LISTENERS];

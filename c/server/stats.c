@@ -82,10 +82,69 @@ static uint64_t sum_of(server *of, size_t which) {
     return sum;
 }
 
+/* ------------------------------------------------------------------------------------------------------ what the cache has */
+
+/* What the cache counts, and what it takes and holds: for objects of the size that it was opened for, and for those of the size that
+ * was stored on average. */
+typedef struct known {
+    kangaroo_counters counted;
+    kangaroo_sizes of_options, of_stored;
+    uint64_t stored_bytes; /* of an object, on average: key, value and what the server keeps of an item */
+} known;
+
+static uint64_t less(uint64_t from, uint64_t what) {
+    return from > what ? from - what : 0;
+}
+
+static uint64_t least(uint64_t one, uint64_t other) {
+    return one < other ? one : other;
+}
+
+/* What cannot be had is all zeros: the calls are refused for wrong arguments alone. */
+static void read_known(server *of, known *to) {
+    kangaroo_options options = of->options;
+    *to = (known){0};
+    (void)kangaroo_counters_read(of->cache, &to->counted, sizeof to->counted);
+    (void)kangaroo_sizes_of(&options, &to->of_options, sizeof to->of_options);
+    uint64_t stored = to->counted.puts + to->counted.fills_stored;
+    to->stored_bytes = stored != 0 ? to->counted.bytes_put / stored : options.object_bytes;
+    options.object_bytes = (uint32_t)to->stored_bytes;
+    (void)kangaroo_sizes_of(&options, &to->of_stored, sizeof to->of_stored);
+}
+
+/* How many objects left the log for a set, if none left it because its key was stored anew or removed: these are counted too. */
+static uint64_t moved(const known *of) {
+    return less(of->counted.logged, of->counted.dropped + of->counted.log_objects_now);
+}
+
+/* An estimate: of those that moved to sets, as many as there is room for. */
+static uint64_t items(const known *of) {
+    uint64_t in_sets = least(moved(of), of->of_stored.set_objects);
+    return of->counted.memory_objects_now + of->counted.log_objects_now + in_sets;
+}
+
+/* An estimate: those that are counted as lost for want of room, and those that moved to sets beyond their room. It never falls. */
+static uint64_t evicted(const known *of) {
+    const kangaroo_counters *is = &of->counted;
+    return is->declined + is->log_full + is->index_full + is->dropped + less(moved(of), of->of_options.set_objects);
+}
+
+/* An estimate of the memory that the cache has taken. */
+static uint64_t memory_taken(const known *of) {
+    const kangaroo_sizes *is = &of->of_options;
+    uint64_t objects = least(of->counted.memory_objects_now, is->memory_objects);
+    if (is->memory_objects == 0) return is->memory_fixed;
+    return is->memory_fixed + (is->memory_full - is->memory_fixed) / is->memory_objects * objects;
+}
+
 static void reset(server *of) {
     for (size_t i = 0; i < COUNT_NUMBERS; i++) atomic_store(&of->at_reset.of[i], sum_of(of, i));
     atomic_store(&of->total_conns, 0);
     atomic_store(&of->rejected_conns, 0);
+    known now;
+    read_known(of, &now);
+    atomic_store(&of->evicted_at_reset, evicted(&now));
+    atomic_store(&of->expired_at_reset, now.counted.expired);
 }
 
 /* ----------------------------------------------------------------------------------------------------------------- lines */
@@ -129,6 +188,7 @@ static void lines_of_process(lines *to, server *of) {
     number_line(to, "uptime", now - of->started);
     number_line(to, "time", now);
     line(to, "version", SERVED_VERSION);
+    line(to, "kangaroo_version", "%.*s", (int)strcspn(kangaroo_build(), " "), kangaroo_build());
     number_line(to, "pointer_size", 8 * sizeof(void *));
     time_line(to, "rusage_user", use.ru_utime);
     time_line(to, "rusage_system", use.ru_stime);
@@ -146,13 +206,26 @@ static void lines_of_clients(lines *to, server *of) {
     number_line(to, "curr_connections", atomic_load(&of->curr_conns));
     number_line(to, "total_connections", atomic_load(&of->total_conns));
     number_line(to, "rejected_connections", atomic_load(&of->rejected_conns));
+    number_line(to, "accepting_conns", 1);
+    number_line(to, "listen_disabled_num", 0); /* it never stops to accept */
+    number_line(to, "threads", of->settings.threads);
 }
 
-static void lines_of_cache(lines *to, server *of) {
-    kangaroo_counters all;
-    uint64_t each[sizeof all / sizeof(uint64_t)];
-    if (kangaroo_counters_read(of->cache, &all, sizeof all) != KANGAROO_OK) return;
-    memcpy(each, &all, sizeof all);
+/* What memcached tells of its items. What nobody here counts is 0. */
+static void lines_of_items(lines *to, server *of, const known *is) {
+    static const char *const uncounted[] = {"get_flushed", "expired_unfetched", "evicted_unfetched", "reclaimed",
+                                            "hash_power_level", "hash_bytes", "hash_is_expanding"};
+    number_line(to, "limit_maxbytes", (of->settings.memory_mib << 20) + is->of_options.file_bytes);
+    number_line(to, "bytes", items(is) * is->stored_bytes);
+    number_line(to, "curr_items", items(is));
+    number_line(to, "evictions", less(evicted(is), atomic_load(&of->evicted_at_reset)));
+    number_line(to, "get_expired", is->counted.expired - atomic_load(&of->expired_at_reset));
+    for (size_t i = 0; i < sizeof uncounted / sizeof *uncounted; i++) number_line(to, uncounted[i], 0);
+}
+
+static void lines_of_counters(lines *to, const kangaroo_counters *all) {
+    uint64_t each[sizeof *all / sizeof(uint64_t)];
+    memcpy(each, all, sizeof each);
     for (size_t i = 0; i < sizeof each / sizeof *each; i++) {
         char name[64];
         snprintf(name, sizeof name, "kangaroo_%s", kangaroo_counter_name(i));
@@ -161,13 +234,21 @@ static void lines_of_cache(lines *to, server *of) {
 }
 
 static void general(lines *to, server *of) {
+    known is;
+    read_known(of, &is);
     lines_of_process(to, of);
     lines_of_clients(to, of);
     lines_of_counts(to, of);
-    number_line(to, "limit_maxbytes", of->settings.memory_mib << 20);
-    number_line(to, "accepting_conns", 1);
-    number_line(to, "threads", of->settings.threads);
-    lines_of_cache(to, of);
+    lines_of_items(to, of, &is);
+    lines_of_counters(to, &is.counted);
+}
+
+/* Clients that know slabs are told of none. */
+static void slabs(lines *to, server *of) {
+    known is;
+    read_known(of, &is);
+    number_line(to, "active_slabs", 0);
+    number_line(to, "total_malloced", memory_taken(&is));
 }
 
 /* -------------------------------------------------------------------------------------------------------------- settings */
@@ -283,8 +364,10 @@ bool write_stats(worker *by, ks_stats which) {
     case KS_STATS_GENERAL: general(&to, by->of); break;
     case KS_STATS_SETTINGS: of_settings(&to, by->of); break;
     case KS_STATS_CONNS: conns(&to, by->of); break;
+    case KS_STATS_SLABS: slabs(&to, by->of); break;
+    case KS_STATS_SIZES: line(&to, "sizes_status", "disabled"); break;
     case KS_STATS_RESET: reset(by->of); break;
-    case KS_STATS_ITEMS: case KS_STATS_SLABS: case KS_STATS_SIZES: case KS_STATS_UNKNOWN: default: break;
+    case KS_STATS_ITEMS: case KS_STATS_UNKNOWN: case KS_STATS_CACHEDUMP: case KS_STATS_DETAIL: default: break;
     }
     return !to.is_refused;
 }

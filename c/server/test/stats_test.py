@@ -1,4 +1,5 @@
 """The stats commands."""
+import pathlib
 import time
 
 from harness import equal, expect, server, shows
@@ -6,7 +7,10 @@ from harness import equal, expect, server, shows
 OF_MEMCACHED = """pid uptime time version pointer_size rusage_user rusage_system max_connections curr_connections total_connections
 rejected_connections cmd_get cmd_set cmd_flush cmd_touch cmd_meta get_hits get_misses delete_misses delete_hits incr_misses incr_hits
 decr_misses decr_hits cas_misses cas_hits cas_badval touch_hits touch_misses store_too_large store_no_memory total_items idle_kicks
-bytes_read bytes_written limit_maxbytes accepting_conns threads conn_yields""".split()
+bytes_read bytes_written limit_maxbytes accepting_conns threads conn_yields listen_disabled_num bytes curr_items
+evictions get_expired get_flushed expired_unfetched evicted_unfetched reclaimed hash_power_level hash_bytes hash_is_expanding""".split()
+UNCOUNTED = """listen_disabled_num get_flushed expired_unfetched evicted_unfetched reclaimed hash_power_level hash_bytes
+hash_is_expanding""".split()
 
 
 def counted(client, requests, **wanted):
@@ -17,7 +21,7 @@ def counted(client, requests, **wanted):
     client.send(b"mn\r\n")
     client.take_to(b"MN\r\n")
     after = client.stats()
-    kinds = ("cmd_", "get_", "delete_", "incr_", "decr_", "cas_", "touch_", "store_")
+    kinds = ("cmd_", "get_", "delete_", "incr_", "decr_", "cas_", "touch_", "store_", "evict", "expired_", "listen_")
     grown = {name: int(after[name]) - int(before[name]) for name in after if name.startswith(kinds)}
     equal({name: by for name, by in grown.items() if by}, wanted, f"what {requests} count")
 
@@ -28,7 +32,6 @@ def counts():
         client = it.client()
         names = client.stats()
         expect(not [name for name in OF_MEMCACHED if name not in names], "memcached's names are there")
-        client.ask(b"version\r\n", b"VERSION %s\r\n" % names["version"].encode())
         counted(client, [b"set a 0 0 1\r\n1\r\n"], cmd_set=1)
         counted(client, [b"get a b\r\n"], cmd_get=2, get_hits=1, get_misses=1)
         counted(client, [b"incr a 1\r\n", b"incr b 1\r\n"], incr_hits=1, incr_misses=1)
@@ -45,8 +48,9 @@ def of_cache():
     with server() as it:
         client = it.client()
         client.ask(b"set a 0 0 1\r\n1\r\nget a\r\nget b\r\n", b"STORED\r\nVALUE a 0 1\r\n1\r\nEND\r\nEND\r\n")
-        own = {name: int(value) for name, value in client.stats().items() if name.startswith("kangaroo_")}
-        expect(len(own) == 39, f"{len(own)} counters")
+        own = {name: value for name, value in client.stats().items() if name.startswith("kangaroo_")}
+        expect(own.pop("kangaroo_version").startswith("1."), own)
+        expect(len(own) == 39 and all(value.isdigit() for value in own.values()), f"{len(own)} counters")
 
 
 @shows("stats reset sets counts to 0, and stats settings has what the command line said")
@@ -58,6 +62,79 @@ def reset_and_settings():
         settings = client.stats(b"settings")
         wanted = {"maxconns": "77", "num_threads": "2", "object_bytes": "50", "domain_socket": it.path, "tcpport": "0"}
         equal({name: settings[name] for name in wanted}, wanted, "settings")
+
+
+@shows("version and stats give a version of memcached that clients can parse, and stats says whose it is")
+def versions():
+    with server() as it:
+        client = it.client()
+        lines = client.stats()
+        equal(lines["version"], "1.6.18", "version")
+        client.ask(b"version\r\n", b"VERSION 1.6.18\r\n")
+        expect(" " not in lines["kangaroo_version"], f"one word, since some clients take three of a line: {lines['kangaroo_version']}")
+
+
+def item_lines(client):
+    """What stats says of items."""
+    lines = client.stats()
+    return {name: int(lines[name]) for name in ("curr_items", "bytes", "evictions", "get_expired", "total_items", *UNCOUNTED)}
+
+
+@shows("curr_items and bytes are those of the items in memory, get_expired is counted, and what nobody counts is 0")
+def items():
+    with server() as it:
+        client = it.client()
+        nothing = dict.fromkeys(item_lines(client), 0)
+        equal(item_lines(client), nothing, "a server that is new")
+        for number in range(100):
+            client.ask(b"set key%02d 0 0 10\r\n0123456789\r\n" % number, b"STORED\r\n")
+        stored = {**nothing, "curr_items": 100, "bytes": 100 * (5 + 10 + 9), "total_items": 100}
+        equal(item_lines(client), stored, "100 items")
+        client.ask(b"delete key01\r\nset key02 0 1 10\r\n0123456789\r\n", b"DELETED\r\nSTORED\r\n")
+        equal(item_lines(client)["curr_items"], 99, "after a removal, and one stored anew")
+        time.sleep(2.1)
+        client.ask(b"get key02\r\nget key01\r\n", b"END\r\nEND\r\n")
+        equal(item_lines(client)["get_expired"], 1, "a get of an expired item, and one of no item")
+        client.ask(b"stats reset\r\n", b"RESET\r\n")
+        equal(item_lines(client)["get_expired"], 0, "after stats reset")
+
+
+@shows("with more items than there is room for, curr_items and bytes stay below what there is room for, and evictions never fall")
+def full():
+    with server("-m", "1", "--flash", "1M") as it:
+        client, limit = it.client(), int(it.client().stats()["limit_maxbytes"])
+        equal(limit, (1 << 20) + sum_of_files(it.folder), "limit_maxbytes, of memory and flash")
+        before, most = 0, 0
+        for first in range(0, 60000, 2000):
+            client.send(b"".join(b"set key%05d 0 0 91 noreply\r\n%091d\r\n" % (number, number) for number in range(first, first + 2000)))
+            now = item_lines(client)
+            expect(now["evictions"] >= before, f"evictions fell from {before} to {now['evictions']}")
+            expect(now["bytes"] <= limit, f"{now['bytes']} bytes where there is room for {limit}")
+            expect(now["curr_items"] <= first + 2000, f"{now['curr_items']} items of {first + 2000}")
+            before, most = now["evictions"], max(most, now["curr_items"])
+        expect(5000 < most < 15000, f"at most {most} items of 108 bytes in 2 MiB")
+        expect(40000 < before < 60000, f"{before} evictions of 60,000 items")
+        client.ask(b"stats reset\r\n", b"RESET\r\n")
+        expect(item_lines(client)["evictions"] < 100, "evictions after stats reset")
+
+
+def sum_of_files(folder):
+    """The bytes of a server's files of lanes."""
+    return sum(it.stat().st_size for it in pathlib.Path(folder).glob("kangaroo-*.dev"))
+
+
+@shows("stats items, slabs and sizes are answered as memcached answers them without slabs")
+def without_slabs():
+    with server() as it:
+        client = it.client()
+        client.ask(b"set a 0 0 1\r\n1\r\n", b"STORED\r\n")
+        equal(client.stats(b"items"), {}, "stats items")
+        equal(client.stats(b"sizes"), {"sizes_status": "disabled"}, "stats sizes")
+        lines = client.stats(b"slabs")
+        equal(lines.pop("active_slabs"), "0", "active_slabs")
+        taken = int(lines.pop("total_malloced"))
+        equal(lines, {}, "other lines of stats slabs")
+        expect(100000 < taken < 64 << 20, f"{taken} bytes of memory with -m 64")
 
 
 @shows("stats conns has the address and the state of each socket: who listens, waits, has sent half a request, and asks")
