@@ -1,8 +1,10 @@
 /* A connection, and what is done for it: all by its worker, so it has no lock.
  *
- * A turn is one read, the steps of what was read, and one send. What a client leaves half sent is kept for it, and so is what
- * it does not take; while it has not taken its answers it is not read. So a slow client costs at most READ_BYTES and
- * KS_MOST_KEPT bytes that wait, and the answers of one turn, ANSWERS_ENOUGH and one more. An idle one costs its struct. */
+ * A turn is one read, the steps of what was read until the answers are ANSWERS_ENOUGH, and one send. What a client leaves half
+ * sent is kept for it, and so is what it does not take; while it has not taken its answers it is not read. What a turn leaves
+ * undone is done in the client's next turn, after the others had theirs. So a slow client costs at most READ_BYTES and
+ * KS_MOST_KEPT bytes that wait, and the answers of one turn, ANSWERS_ENOUGH and one more: of a step KS_MOST_ANSWER at most, or
+ * the lines of stats. An idle one costs its struct and its line of what is shown. */
 #define _GNU_SOURCE
 #include "server.h"
 #include <netinet/in.h>
@@ -14,6 +16,51 @@
 #include <unistd.h>
 
 enum { DRAINED_BYTES = 65536 };
+
+/* ------------------------------------------------------------------------------------------------------- what is shown */
+
+uint64_t most_descriptors(const settings *of) {
+    return of->conns + of->threads * 2 + OTHER_DESCRIPTORS;
+}
+
+bool make_shown(server *of) {
+    of->shown_room = (uint32_t)most_descriptors(&of->settings);
+    of->shown = calloc(of->shown_room, sizeof *of->shown);
+    return of->shown != NULL;
+}
+
+/* What is shown of a descriptor, or NULL: more were open than this program opens, when it was started. */
+static shown *shown_of(server *of, int fd) {
+    return (uint32_t)fd < of->shown_room ? &of->shown[fd] : NULL;
+}
+
+/* Shows a descriptor that a client has got. Only the main thread does this. */
+static void show(server *of, int fd) {
+    shown *it = shown_of(of, fd);
+    if (it == NULL) return;
+    atomic_store(&it->state, CONN_WAITS);
+    atomic_store(&it->last_moment, moment_now());
+    if (atomic_fetch_add(&it->changes, 1) == 0) atomic_fetch_add(&of->shown_count, 1);
+    if ((uint32_t)fd >= atomic_load(&of->shown_end)) atomic_store(&of->shown_end, (uint32_t)fd + 1);
+}
+
+/* Shows a descriptor no more: before it is closed, so that nobody takes the next one of its number for it. */
+static void hide(server *of, int fd) {
+    shown *it = shown_of(of, fd);
+    if (it != NULL) atomic_fetch_add(&it->changes, 1);
+}
+
+static void show_state(worker *by, const conn *of, conn_state state) {
+    shown *it = shown_of(by->of, of->fd);
+    if (it != NULL) atomic_store_explicit(&it->state, state, memory_order_relaxed);
+}
+
+static void show_moment(worker *by, conn *of) {
+    shown *it = shown_of(by->of, of->fd);
+    uint64_t now = moment_now();
+    atomic_store_explicit(&of->last_moment, now, memory_order_relaxed);
+    if (it != NULL) atomic_store_explicit(&it->last_moment, now, memory_order_relaxed);
+}
 
 /* ------------------------------------------------------------------------------------------------------- open and close */
 
@@ -43,14 +90,15 @@ static bool enter(worker *by, conn *of) {
     return is_watched;
 }
 
-/* Takes a connection off the list, and closes its descriptor: stats conns looks at both under the lock. The close alone would
- * not end the watching if a process that was forked had the descriptor too. */
+/* Takes a connection off the list, and closes its descriptor. The close alone would not end the watching if a process that was
+ * forked had the descriptor too. */
 static void leave(worker *by, conn *of) {
+    hide(by->of, of->fd);
     pthread_mutex_lock(&by->list_lock);
     unlink_conn(by, of);
+    pthread_mutex_unlock(&by->list_lock);
     epoll_ctl(by->poll, EPOLL_CTL_DEL, of->fd, NULL);
     close(of->fd);
-    pthread_mutex_unlock(&by->list_lock);
 }
 
 void conn_close(worker *by, conn *of) {
@@ -79,6 +127,7 @@ bool conn_open(worker *by, int fd) {
     of->fd = fd;
     atomic_init(&of->last_moment, moment_now());
     atomic_fetch_add(&by->of->curr_conns, 1);
+    show(by->of, fd);
     tell(TELL_ALL, "<%d new client connection", fd);
     if (enter(by, of)) {
         atomic_fetch_add(&by->of->total_conns, 1);
@@ -86,6 +135,7 @@ bool conn_open(worker *by, int fd) {
     }
     int cause = errno;
     atomic_fetch_sub(&by->of->curr_conns, 1);
+    hide(by->of, fd);
     free(of);
     close(fd);
     errno = cause;
@@ -109,22 +159,12 @@ static bool send_some(worker *by, int fd, buffer *of) {
     return is_well;
 }
 
-/* Makes a buffer that grew small again. If that is refused, it stays as it is. */
-static void shrink(buffer *of) {
-    if (of->room <= ANSWERS_KEPT || of->length != 0) return;
-    uint8_t *less = realloc(of->at, ANSWERS_ENOUGH + KS_MOST_ANSWER);
-    if (less == NULL) return;
-    of->at = less;
-    of->room = ANSWERS_ENOUGH + KS_MOST_ANSWER;
-}
-
 /* Sends the answers of a turn; what is not taken waits. False: the connection is done for. */
 static bool send_answers(worker *by, conn *of) {
     buffer *answers = &by->answers;
     bool is_well = send_some(by, of->fd, answers);
     if (is_well) is_well = append_bytes(&of->unsent, answers->at, answers->length);
     answers->length = 0;
-    shrink(answers);
     return is_well;
 }
 
@@ -141,16 +181,19 @@ void conn_send_last(worker *by, conn *of) {
 
 /* --------------------------------------------------------------------------------------------------------------- reading */
 
-/* Makes steps until no whole request is left, or the answers are enough for one send. Gives how many bytes were taken. */
+/* Makes steps until no whole request is left, or the turn is over: the answers are enough for one send, or a step says so. Gives how
+ * many bytes were taken. */
 static size_t make_steps(worker *by, conn *of, const uint8_t *bytes, size_t length) {
     size_t all = 0;
-    while (by->answers.length < ANSWERS_ENOUGH) {
+    step_end end = STEP_WENT_ON;
+    while (end == STEP_WENT_ON && by->answers.length < ANSWERS_ENOUGH) {
         size_t taken;
-        step_end end = make_step(by, of, bytes + all, length - all, &taken);
+        end = make_step(by, of, bytes + all, length - all, &taken);
         all += taken;
-        if (end == STEP_ENDS) of->is_ending = true;
-        if (end != STEP_WENT_ON) break;
     }
+    if (end == STEP_ENDS) of->is_ending = true;
+    of->is_cut = all < length && (end == STEP_WENT_ON || end == STEP_ENDS_TURN);
+    if (of->is_cut) count_up(by, COUNT_conn_yields, 1);
     return all;
 }
 
@@ -162,17 +205,12 @@ static bool keep_unread(conn *of, const uint8_t *bytes, size_t length) {
     return true;
 }
 
-/* Answers bytes, as far as their answers are taken. False: the connection is done for. */
+/* Answers bytes, as far as a turn goes. False: the connection is done for. */
 static bool answer(worker *by, conn *of, const uint8_t *bytes, size_t length) {
-    for (;;) {
-        size_t taken = make_steps(by, of, bytes, length);
-        bool is_enough = by->answers.length >= ANSWERS_ENOUGH;
-        bytes += taken;
-        length -= taken;
-        if (!send_answers(by, of)) return false;
-        if (of->is_ending) return of->unsent.length != 0;
-        if (of->unsent.length != 0 || !is_enough) return keep_unread(of, bytes, length);
-    }
+    size_t taken = make_steps(by, of, bytes, length);
+    if (!send_answers(by, of)) return false;
+    if (of->is_ending) return of->unsent.length != 0;
+    return keep_unread(of, bytes + taken, length - taken);
 }
 
 /* Puts what the client left at the front of the worker's room for reading. Gives its length. */
@@ -196,8 +234,13 @@ static bool read_and_answer(worker *by, conn *of) {
 
 /* ----------------------------------------------------------------------------------------------------------------- turns */
 
-/* A turn of a client that has not taken all answers: what it sent before is gone on with only once it has. */
-static bool turn_to_send(worker *by, conn *of) {
+/* Whether a client's next turn is for what it sent before, and not for what it sends: answers wait, or the last turn was cut. */
+static bool goes_on(const conn *of) {
+    return of->unsent.length != 0 || of->is_cut;
+}
+
+/* A turn of such a client: what it sent before is gone on with only once it has taken all answers. */
+static bool turn_to_go_on(worker *by, conn *of) {
     if (!send_unsent(by, of)) return false;
     if (of->unsent.length != 0) return true;
     if (of->is_ending) return false;
@@ -207,16 +250,24 @@ static bool turn_to_send(worker *by, conn *of) {
 
 static bool turn(worker *by, conn *of, uint32_t events) {
     if ((events & EPOLLERR) != 0) return false;
-    atomic_store_explicit(&of->state, CONN_SERVED, memory_order_relaxed);
-    atomic_store_explicit(&of->last_moment, moment_now(), memory_order_relaxed);
-    return of->unsent.length != 0 ? turn_to_send(by, of) : read_and_answer(by, of);
+    by->looks_left = LOOKS_A_TURN;
+    show_state(by, of, CONN_SERVED);
+    show_moment(by, of);
+    return goes_on(of) ? turn_to_go_on(by, of) : read_and_answer(by, of);
 }
 
-/* Has the worker woken when there is something to do. False: the system refused. */
+/* What a client waits for between two turns. One whose turn was cut waits for the next, as if it were served. */
+static conn_state state_after_turn(const conn *of) {
+    if (of->unsent.length != 0) return CONN_SENDS;
+    if (of->is_cut) return CONN_SERVED;
+    return of->unread.length != 0 ? CONN_HALF : CONN_WAITS;
+}
+
+/* Has the worker woken when there is something to do: at once, in turn with the others, if the client would take answers. False:
+ * the system refused. */
 static bool wait_for_right_event(worker *by, conn *of) {
-    bool waits = of->unsent.length != 0;
-    conn_state state = waits ? CONN_SENDS : of->unread.length != 0 ? CONN_HALF : CONN_WAITS;
-    atomic_store_explicit(&of->state, state, memory_order_relaxed);
+    bool waits = goes_on(of);
+    show_state(by, of, state_after_turn(of));
     if (waits == of->is_woken_to_send) return true;
     of->is_woken_to_send = waits;
     struct epoll_event event = {.events = waits ? EPOLLOUT : EPOLLIN, .data.ptr = of};

@@ -14,7 +14,7 @@
 #include <sys/wait.h>
 #include <unistd.h>
 
-enum { OTHER_DESCRIPTORS = 128, EVENTS_AT_ONCE = 16 };
+enum { EVENTS_AT_ONCE = 16 };
 
 /* What main has beside the server. */
 typedef struct run {
@@ -32,7 +32,7 @@ typedef struct run {
 /* Has the system give this process enough descriptors. */
 static bool raise_limit(const settings *of) {
     struct rlimit limit;
-    rlim_t wanted = of->conns + of->threads * 2 + OTHER_DESCRIPTORS;
+    rlim_t wanted = most_descriptors(of);
     if (getrlimit(RLIMIT_NOFILE, &limit) != 0 || limit.rlim_cur >= wanted) return true;
     limit.rlim_cur = wanted;
     if (limit.rlim_max < wanted) limit.rlim_max = wanted; /* root may */

@@ -24,7 +24,9 @@
 enum {
     READ_BYTES = 16384,      /* read at once from a client */
     ANSWERS_ENOUGH = 65536,  /* with so many bytes to send no further step is made */
-    ANSWERS_KEPT = 1 << 20,  /* a buffer that grew over this is made small again */
+    LOOKS_A_TURN = 4096,     /* so many descriptors stats conns looks at in a turn, */
+    LOOKS_OF_SHOWN = 512,    /* where one that it shows counts as so many */
+    OTHER_DESCRIPTORS = 128, /* that are neither of clients nor of workers */
     MOST_LISTENERS = 64,
     ITEM_HEAD_BYTES = 9,     /* what an item takes beside its key and data, if it has no flags and no expiry */
     ITEM_HEAD_BYTES_MAX = 17
@@ -137,9 +139,10 @@ void start_clock(void);
 uint64_t moment_now(void);
 
 typedef enum step_end {
-    STEP_WENT_ON,   /* there may be more to do */
+    STEP_WENT_ON,    /* there may be more to do */
     STEP_NEEDS_MORE, /* nothing was taken */
-    STEP_ENDS       /* the client is closed after its answers */
+    STEP_ENDS_TURN,  /* nothing was taken, and there is more to do in the client's next turn */
+    STEP_ENDS        /* the client is closed after its answers */
 } step_end;
 
 /* Makes the next step of a client: takes bytes, and answers into by->answers. */
@@ -166,8 +169,9 @@ typedef struct counts {
 void count_up(worker *by, count_number which, uint64_t more);
 /* Counts what a step did. */
 void count_step(worker *by, const ks_done *done);
-/* Writes the lines that are asked for into by->answers, without what ends them. False: memory was refused. */
-bool write_stats(worker *by, ks_stats which);
+/* Writes the lines that a client asks for into by->answers, without what ends them. Of stats conns these are the lines of one more
+ * socket, or none if the turn has looked at enough: *is_all says whether there are no more. False: memory was refused. */
+bool write_stats(worker *by, conn *of, ks_stats which, bool *is_all);
 
 /* ---------------------------------------------------------------------------------------------------------- conns.c */
 
@@ -182,8 +186,9 @@ typedef enum conn_state {
 struct conn {
     int fd;
     bool is_ending;        /* it is closed once its answers are sent */
+    bool is_cut;           /* its last turn left some of what it sent for the next */
     bool is_woken_to_send; /* by its worker's epoll, and not to read */
-    atomic_uint state;     /* a conn_state */
+    uint32_t looked_at;    /* so many sockets stats conns has looked at for it */
     atomic_uint_least64_t last_moment;
     ks_session session;
     buffer unread;   /* what was read and not taken */
@@ -191,6 +196,19 @@ struct conn {
     conn *before, *after;
 };
 
+/* What stats conns shows of a descriptor. It is written by whoever opens, serves and closes its connection, and read by any worker
+ * without a lock. */
+typedef struct shown {
+    atomic_uint changes; /* how often a client got it and left it: odd while one has it */
+    atomic_uint state;   /* a conn_state */
+    atomic_uint_least64_t last_moment;
+    uint8_t apart[48]; /* a neighbour's client may be another worker's: a cache line each, wherever in it the table begins */
+} shown;
+
+/* Makes the table of what is shown, for as many descriptors as the settings need. False: memory was refused. */
+bool make_shown(server *of);
+/* The most descriptors that a server with these settings has. */
+uint64_t most_descriptors(const settings *of);
 /* Takes a client on. False: the system refused, and the descriptor is closed. */
 bool conn_open(worker *by, int fd);
 void conn_close(worker *by, conn *of);
@@ -206,9 +224,10 @@ struct worker {
     pthread_t thread;
     bool has_thread;
     int poll, wake;
-    pthread_mutex_t list_lock; /* of conns, and of which descriptors they have */
+    pthread_mutex_t list_lock; /* of conns: the main thread puts one on the list, and the worker takes it off */
     conn *conns;
     atomic_uint_least64_t conn_count;
+    uint32_t looks_left; /* of LOOKS_A_TURN */
     uint8_t *in;    /* room for what a client left and one read more */
     buffer answers;
     counts counts;
@@ -242,6 +261,10 @@ struct server {
     atomic_uint_least64_t evicted_at_reset, expired_at_reset;
     atomic_bool is_stopping;
     atomic_uint_least64_t curr_conns, total_conns, rejected_conns;
+    shown *shown; /* by descriptor */
+    uint32_t shown_room;
+    atomic_uint shown_end; /* one more than the greatest descriptor that a client had */
+    atomic_uint shown_count; /* how many descriptors clients had */
     int listeners[MOST_LISTENERS];
     int listener_count;
     int spare; /* a descriptor that is given up to accept and refuse a client if there are no more */

@@ -206,6 +206,7 @@ static void lines_of_clients(lines *to, server *of) {
     number_line(to, "curr_connections", atomic_load(&of->curr_conns));
     number_line(to, "total_connections", atomic_load(&of->total_conns));
     number_line(to, "rejected_connections", atomic_load(&of->rejected_conns));
+    number_line(to, "connection_structures", atomic_load(&of->shown_count));
     number_line(to, "accepting_conns", 1);
     number_line(to, "listen_disabled_num", 0); /* it never stops to accept */
     number_line(to, "threads", of->settings.threads);
@@ -318,52 +319,74 @@ static void spell_address(int fd, name_of_end *ask, const settings *of, char to[
     } else snprintf(to, ADDRESS_BYTES, "?");
 }
 
-/* The lines of a socket; `since` is the moment when its client last asked. */
-static void lines_of_socket(lines *to, const settings *by, int fd, const char *state, uint64_t since) {
-    char name[48], address[ADDRESS_BYTES];
-    snprintf(name, sizeof name, "%d:state", fd);
-    line(to, name, "%s", state);
-    snprintf(name, sizeof name, "%d:secs_since_last_cmd", fd);
-    number_line(to, name, moment_now() - since);
-    spell_address(fd, getsockname, by, address);
-    snprintf(name, sizeof name, "%d:listen_addr", fd);
-    line(to, name, "%s", address);
+/* What is told of a socket. */
+typedef struct told_socket {
+    const char *state;
+    uint64_t last_moment; /* when its client last asked */
+    char address[ADDRESS_BYTES], listens[ADDRESS_BYTES];
+} told_socket;
+
+static void line_of_socket(lines *to, uint32_t fd, const char *what, const char *value) {
+    char name[48];
+    snprintf(name, sizeof name, "%u:%s", (unsigned)fd, what);
+    line(to, name, "%s", value);
 }
 
-static void address_line(lines *to, const settings *by, int fd, name_of_end *ask) {
-    char name[48], address[ADDRESS_BYTES];
-    snprintf(name, sizeof name, "%d:addr", fd);
-    spell_address(fd, ask, by, address);
-    line(to, name, "%s", address);
+static void lines_of_socket(lines *to, uint32_t fd, const told_socket *it) {
+    char seconds[24];
+    snprintf(seconds, sizeof seconds, "%llu", (unsigned long long)less(moment_now(), it->last_moment));
+    line_of_socket(to, fd, "addr", it->address);
+    line_of_socket(to, fd, "listen_addr", it->listens);
+    line_of_socket(to, fd, "state", it->state);
+    line_of_socket(to, fd, "secs_since_last_cmd", seconds);
 }
 
-static void lines_of_worker(lines *to, server *of, worker *by) {
+static void lines_of_listener(lines *to, const server *of, int fd) {
+    told_socket it = {.state = "conn_listening", .last_moment = of->started};
+    spell_address(fd, getsockname, &of->settings, it.address);
+    spell_address(fd, getsockname, &of->settings, it.listens);
+    lines_of_socket(to, (uint32_t)fd, &it);
+}
+
+/* The lines of a descriptor. False: no client has it, or another one had it before all was read: then what was read is of both. */
+static bool lines_of_client(lines *to, const server *of, uint32_t fd) {
     static const char *const states[] = {
         [CONN_WAITS] = "conn_read", [CONN_HALF] = "conn_nread", [CONN_SENDS] = "conn_mwrite", [CONN_SERVED] = "conn_parse_cmd"};
-    pthread_mutex_lock(&by->list_lock);
-    for (conn *it = by->conns; it != NULL; it = it->after) {
-        unsigned state = atomic_load_explicit(&it->state, memory_order_relaxed);
-        address_line(to, &of->settings, it->fd, getpeername);
-        lines_of_socket(to, &of->settings, it->fd, states[state],
-                        atomic_load_explicit(&it->last_moment, memory_order_relaxed));
-    }
-    pthread_mutex_unlock(&by->list_lock);
+    shown *shows = &of->shown[fd];
+    unsigned changes = atomic_load(&shows->changes);
+    if (changes % 2 == 0) return false;
+    told_socket it = {.state = states[atomic_load(&shows->state)], .last_moment = atomic_load(&shows->last_moment)};
+    spell_address((int)fd, getpeername, &of->settings, it.address);
+    spell_address((int)fd, getsockname, &of->settings, it.listens);
+    if (atomic_load(&shows->changes) != changes) return false;
+    lines_of_socket(to, fd, &it);
+    return true;
 }
 
-static void conns(lines *to, server *of) {
-    for (int i = 0; i < of->listener_count; i++) {
-        address_line(to, &of->settings, of->listeners[i], getsockname);
-        lines_of_socket(to, &of->settings, of->listeners[i], "conn_listening", of->started);
+/* The lines of the next socket that is shown to a client: of those that listen, and then of all descriptors that clients had. False:
+ * there is none left. */
+static bool next_socket(lines *to, worker *by, conn *of) {
+    const server *all = by->of;
+    uint32_t listeners = (uint32_t)all->listener_count, end = listeners + atomic_load(&all->shown_end);
+    bool is_shown = false;
+    while (!is_shown && by->looks_left != 0 && of->looked_at < end) {
+        uint32_t at = of->looked_at++;
+        is_shown = at < listeners || lines_of_client(to, all, at - listeners);
+        if (at < listeners) lines_of_listener(to, all, all->listeners[at]);
+        by->looks_left -= (uint32_t)least(by->looks_left, is_shown ? LOOKS_OF_SHOWN : 1);
     }
-    for (uint64_t i = 0; i < of->settings.threads; i++) lines_of_worker(to, of, &of->workers[i]);
+    if (is_shown || of->looked_at < end) return true;
+    of->looked_at = 0;
+    return false;
 }
 
-bool write_stats(worker *by, ks_stats which) {
+bool write_stats(worker *by, conn *of, ks_stats which, bool *is_all) {
     lines to = {.to = &by->answers};
+    *is_all = true;
     switch (which) {
     case KS_STATS_GENERAL: general(&to, by->of); break;
     case KS_STATS_SETTINGS: of_settings(&to, by->of); break;
-    case KS_STATS_CONNS: conns(&to, by->of); break;
+    case KS_STATS_CONNS: *is_all = !next_socket(&to, by, of); break;
     case KS_STATS_SLABS: slabs(&to, by->of); break;
     case KS_STATS_SIZES: line(&to, "sizes_status", "disabled"); break;
     case KS_STATS_RESET: reset(by->of); break;

@@ -87,6 +87,7 @@ typedef struct step {
     ks_wanted wanted;
     ks_turn turn;
     ks_done done;
+    bool is_part; /* it was a part of an answer, and its request is still to be taken */
 } step;
 
 /* Where a step answers: after the other answers. There is room, KS_MOST_ANSWER bytes: conns.c sees to it. */
@@ -122,11 +123,13 @@ static void step_with_flush(step *it) {
     step_without_lane(it);
 }
 
-/* The lines of stats, and then the step that ends them. It needs room anew. */
+/* The lines of stats, and once these are all the step that ends them. It needs room anew. */
 static bool step_with_stats(step *it) {
-    if (!write_stats(it->by, (ks_stats)it->wanted.argument)) return false;
+    bool is_all;
+    if (!write_stats(it->by, it->of, (ks_stats)it->wanted.argument, &is_all)) return false;
     if (!make_room(&it->by->answers, KS_MOST_ANSWER)) return false;
-    step_without_lane(it);
+    it->is_part = !is_all;
+    if (is_all) step_without_lane(it);
     return true;
 }
 
@@ -168,6 +171,7 @@ step_end make_step(worker *by, conn *of, const uint8_t *bytes, size_t length, si
     it.turn.moment = moment_now();
     settle_flush(&by->of->numbers, it.turn.moment);
     if (!do_wanted(&it)) return STEP_ENDS;
+    if (it.is_part) return by->looks_left == 0 ? STEP_ENDS_TURN : STEP_WENT_ON;
     if (verbosity() >= TELL_ALL) tell_step(&it);
     count_step(by, &it.done);
     by->answers.length += it.done.answered;

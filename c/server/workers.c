@@ -86,6 +86,7 @@ static bool start_worker(worker *by, server *of) {
 
 bool start_workers(server *of) {
     size_t bytes = of->settings.threads * sizeof *of->workers;
+    if (!make_shown(of)) return false;
     of->workers = aligned_alloc(LANE_ALIGNMENT, bytes);
     if (of->workers == NULL) return false;
     memset(of->workers, 0, bytes);
@@ -113,4 +114,6 @@ void stop_workers(server *of) {
     for (uint64_t i = 0; i < of->settings.threads; i++) stop_worker(&of->workers[i]);
     free(of->workers);
     of->workers = NULL;
+    free(of->shown);
+    of->shown = NULL;
 }

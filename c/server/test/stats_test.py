@@ -2,12 +2,12 @@
 import pathlib
 import time
 
-from harness import equal, expect, server, shows
+from harness import equal, expect, server, shows, wait_for
 
 OF_MEMCACHED = """pid uptime time version pointer_size rusage_user rusage_system max_connections curr_connections total_connections
 rejected_connections cmd_get cmd_set cmd_flush cmd_touch cmd_meta get_hits get_misses delete_misses delete_hits incr_misses incr_hits
 decr_misses decr_hits cas_misses cas_hits cas_badval touch_hits touch_misses store_too_large store_no_memory total_items idle_kicks
-bytes_read bytes_written limit_maxbytes accepting_conns threads conn_yields listen_disabled_num bytes curr_items
+bytes_read bytes_written limit_maxbytes accepting_conns threads conn_yields connection_structures listen_disabled_num bytes curr_items
 evictions get_expired get_flushed expired_unfetched evicted_unfetched reclaimed hash_power_level hash_bytes hash_is_expanding""".split()
 UNCOUNTED = """listen_disabled_num get_flushed expired_unfetched evicted_unfetched reclaimed hash_power_level hash_bytes
 hash_is_expanding""".split()
@@ -135,6 +135,19 @@ def without_slabs():
         taken = int(lines.pop("total_malloced"))
         equal(lines, {}, "other lines of stats slabs")
         expect(100000 < taken < 64 << 20, f"{taken} bytes of memory with -m 64")
+
+
+@shows("a descriptor that a client had is counted once among connection_structures, however often it is used")
+def structures():
+    with server() as it:
+        client = it.client()
+        equal(client.stats()["connection_structures"], "1", "one client")
+        for _ in range(10):
+            other = it.client()
+            other.ask(b"mn\r\n", b"MN\r\n")
+            other.close()
+            wait_for(lambda: client.stats()["curr_connections"] == "1", "it has left")
+        equal(client.stats()["connection_structures"], "2", "ten clients one after the other")
 
 
 @shows("stats conns has the address and the state of each socket: who listens, waits, has sent half a request, and asks")
