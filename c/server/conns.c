@@ -1,10 +1,10 @@
 /* A connection, and what is done for it: all by its worker, so it has no lock.
  *
- * A turn is one read, the steps of what was read until the answers are ANSWERS_ENOUGH, and one send. What a client leaves half
- * sent is kept for it, and so is what it does not take; while it has not taken its answers it is not read. What a turn leaves
- * undone is done in the client's next turn, after the others had theirs. So a slow client costs at most READ_BYTES and
- * KS_MOST_KEPT bytes that wait, and the answers of one turn, ANSWERS_ENOUGH and one more: of a step KS_MOST_ANSWER at most, or
- * the lines of stats. An idle one costs its struct and its line of what is shown. */
+ * A turn is one read, the steps of what was read, and a send whenever the answers are ANSWERS_ENOUGH. What a client leaves half
+ * sent is kept for it, and so is what it does not take; while it has not taken its answers it is not read. Answers of stats are
+ * long for what is read: a turn has room for a few, and the next ones come in the client's next turn, after the others had theirs.
+ * So a slow client costs at most READ_BYTES and KS_MOST_KEPT bytes that wait, and the answers of one send, ANSWERS_ENOUGH and one
+ * more: of a step KS_MOST_ANSWER at most, or the lines of stats. An idle one costs its struct and its line of what is shown. */
 #define _GNU_SOURCE
 #include "server.h"
 #include <netinet/in.h>
@@ -181,8 +181,8 @@ void conn_send_last(worker *by, conn *of) {
 
 /* --------------------------------------------------------------------------------------------------------------- reading */
 
-/* Makes steps until no whole request is left, or the turn is over: the answers are enough for one send, or a step says so. Gives how
- * many bytes were taken. */
+/* Makes steps until no whole request is left, or the answers are enough for one send, or the turn is over. Gives how many bytes
+ * were taken. */
 static size_t make_steps(worker *by, conn *of, const uint8_t *bytes, size_t length) {
     size_t all = 0;
     step_end end = STEP_WENT_ON;
@@ -192,7 +192,7 @@ static size_t make_steps(worker *by, conn *of, const uint8_t *bytes, size_t leng
         all += taken;
     }
     if (end == STEP_ENDS) of->is_ending = true;
-    of->is_cut = all < length && (end == STEP_WENT_ON || end == STEP_ENDS_TURN);
+    of->is_cut = end == STEP_ENDS_TURN;
     if (of->is_cut) count_up(by, COUNT_conn_yields, 1);
     return all;
 }
@@ -205,12 +205,17 @@ static bool keep_unread(conn *of, const uint8_t *bytes, size_t length) {
     return true;
 }
 
-/* Answers bytes, as far as a turn goes. False: the connection is done for. */
+/* Answers bytes, as far as their answers are taken and the turn goes. False: the connection is done for. */
 static bool answer(worker *by, conn *of, const uint8_t *bytes, size_t length) {
-    size_t taken = make_steps(by, of, bytes, length);
-    if (!send_answers(by, of)) return false;
-    if (of->is_ending) return of->unsent.length != 0;
-    return keep_unread(of, bytes + taken, length - taken);
+    for (;;) {
+        size_t taken = make_steps(by, of, bytes, length);
+        bool is_enough = by->answers.length >= ANSWERS_ENOUGH;
+        bytes += taken;
+        length -= taken;
+        if (!send_answers(by, of)) return false;
+        if (of->is_ending) return of->unsent.length != 0;
+        if (of->unsent.length != 0 || of->is_cut || !is_enough) return keep_unread(of, bytes, length);
+    }
 }
 
 /* Puts what the client left at the front of the worker's room for reading. Gives its length. */

@@ -25,7 +25,7 @@ enum {
     READ_BYTES = 16384,      /* read at once from a client */
     ANSWERS_ENOUGH = 65536,  /* with so many bytes to send no further step is made */
     LOOKS_A_TURN = 4096,     /* so many descriptors stats conns looks at in a turn, */
-    LOOKS_OF_SHOWN = 512,    /* where one that it shows counts as so many */
+    LOOKS_OF_LINES = 512,    /* where one that it shows counts as so many, and so does any other answer of stats */
     OTHER_DESCRIPTORS = 128, /* that are neither of clients nor of workers */
     MOST_LISTENERS = 64,
     ITEM_HEAD_BYTES = 9,     /* what an item takes beside its key and data, if it has no flags and no expiry */
@@ -170,7 +170,7 @@ void count_up(worker *by, count_number which, uint64_t more);
 /* Counts what a step did. */
 void count_step(worker *by, const ks_done *done);
 /* Writes the lines that a client asks for into by->answers, without what ends them. Of stats conns these are the lines of one more
- * socket, or none if the turn has looked at enough: *is_all says whether there are no more. False: memory was refused. */
+ * socket. If the turn has no room for them, none is written. *is_all says whether there are no more. False: memory was refused. */
 bool write_stats(worker *by, conn *of, ks_stats which, bool *is_all);
 
 /* ---------------------------------------------------------------------------------------------------------- conns.c */
@@ -186,7 +186,7 @@ typedef enum conn_state {
 struct conn {
     int fd;
     bool is_ending;        /* it is closed once its answers are sent */
-    bool is_cut;           /* its last turn left some of what it sent for the next */
+    bool is_cut;           /* its last turn left an answer of stats for the next */
     bool is_woken_to_send; /* by its worker's epoll, and not to read */
     uint32_t looked_at;    /* so many sockets stats conns has looked at for it */
     atomic_uint_least64_t last_moment;

@@ -363,6 +363,10 @@ static bool lines_of_client(lines *to, const server *of, uint32_t fd) {
     return true;
 }
 
+static void look(worker *by, uint32_t looks) {
+    by->looks_left -= (uint32_t)least(by->looks_left, looks);
+}
+
 /* The lines of the next socket that is shown to a client: of those that listen, and then of all descriptors that clients had. False:
  * there is none left. */
 static bool next_socket(lines *to, worker *by, conn *of) {
@@ -373,24 +377,32 @@ static bool next_socket(lines *to, worker *by, conn *of) {
         uint32_t at = of->looked_at++;
         is_shown = at < listeners || lines_of_client(to, all, at - listeners);
         if (at < listeners) lines_of_listener(to, all, all->listeners[at]);
-        by->looks_left -= (uint32_t)least(by->looks_left, is_shown ? LOOKS_OF_SHOWN : 1);
+        look(by, is_shown ? LOOKS_OF_LINES : 1);
     }
     if (is_shown || of->looked_at < end) return true;
     of->looked_at = 0;
     return false;
 }
 
+static void lines_of(lines *to, server *of, ks_stats which) {
+    switch (which) {
+    case KS_STATS_GENERAL: general(to, of); break;
+    case KS_STATS_SETTINGS: of_settings(to, of); break;
+    case KS_STATS_SLABS: slabs(to, of); break;
+    case KS_STATS_SIZES: line(to, "sizes_status", "disabled"); break;
+    case KS_STATS_RESET: reset(of); break;
+    case KS_STATS_CONNS: case KS_STATS_ITEMS: case KS_STATS_UNKNOWN: case KS_STATS_CACHEDUMP: case KS_STATS_DETAIL: default: break;
+    }
+}
+
 bool write_stats(worker *by, conn *of, ks_stats which, bool *is_all) {
     lines to = {.to = &by->answers};
-    *is_all = true;
-    switch (which) {
-    case KS_STATS_GENERAL: general(&to, by->of); break;
-    case KS_STATS_SETTINGS: of_settings(&to, by->of); break;
-    case KS_STATS_CONNS: *is_all = !next_socket(&to, by, of); break;
-    case KS_STATS_SLABS: slabs(&to, by->of); break;
-    case KS_STATS_SIZES: line(&to, "sizes_status", "disabled"); break;
-    case KS_STATS_RESET: reset(by->of); break;
-    case KS_STATS_ITEMS: case KS_STATS_UNKNOWN: case KS_STATS_CACHEDUMP: case KS_STATS_DETAIL: default: break;
+    *is_all = by->looks_left != 0;
+    if (!*is_all) return true;
+    if (which == KS_STATS_CONNS) *is_all = !next_socket(&to, by, of);
+    else {
+        lines_of(&to, by->of, which);
+        look(by, LOOKS_OF_LINES);
     }
     return !to.is_refused;
 }

@@ -2,7 +2,7 @@
 import os
 import tempfile
 
-from harness import equal, expect, run_words, shows
+from harness import Client, equal, expect, free_port, run_words, server, shows
 
 WRONG = [
     (["-p", "0"], "-p 0: give a number from 1 to 65535"),
@@ -160,3 +160,11 @@ def letters_of_memcached():
             value = [f"{folder}/1"] if letter in "pUsalumcPfnDtRbBIYeoN" else []
             said = run_words(f"-{letter}", *value, "--folder", f"{folder}/none")[1]
             expect("no such option" not in said and "needs a value" not in said, f"-{letter} {value}: it said {said!r}")
+
+
+@shows("several -l are one list, as with memcached")
+def several_addresses():
+    first, second = free_port(), free_port()
+    with server("-l", f"127.0.0.1:{first}", "-l", f"127.0.0.2:{second}", "--listen", f"127.0.0.3:{first}", has_socket=False):
+        for address in (("127.0.0.1", first), ("127.0.0.2", second), ("127.0.0.3", first)):
+            Client(address).ask(b"mn\r\n", b"MN\r\n")
