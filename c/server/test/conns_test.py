@@ -94,6 +94,11 @@ def waits_of_gets(it, seconds):
     return sorted(waits)
 
 
+def tell_waits(waits):
+    """Prints what others waited."""
+    print(f"    {len(waits)} gets of another, median {1e6 * waits[len(waits) // 2]:.0f} us, longest {1e3 * waits[-1]:.0f} ms")
+
+
 @shows(f"{ASKERS:,} clients that ask stats conns and do not read make no other wait for long, and take little memory; then each reads it all")
 def many_askers():
     have_descriptors(ASKERS + 100)
@@ -107,7 +112,7 @@ def many_askers():
             client.send(b"stats conns\r\n")
         waits = waits_of_gets(it, 2 if IS_QUICK else 20)
         each = (it.kib() - before) / ASKERS
-        print(f"    others' gets: {len(waits)}, median {1e6 * waits[len(waits) // 2]:.0f} us, longest {1e3 * waits[-1]:.0f} ms; {each:.1f} KiB a client")
+        tell_waits(waits)
         expect(waits[-1] < 1 * MORE, f"a get waited {waits[-1]:.3f} s")
         expect(each < 64 * MORE, f"each client took {each:.1f} KiB")
         for client in clients[:: len(clients) // 20]:
@@ -140,5 +145,5 @@ def fast_asker():
         stops.set()
         for reader in readers:
             reader.join()
-        print(f"    others' gets: {len(waits)}, median {1e6 * waits[len(waits) // 2]:.0f} us, longest {1e3 * waits[-1]:.0f} ms")
+        tell_waits(waits)
         expect(waits[-1] < 0.5 * MORE, f"a get waited {waits[-1]:.3f} s")

@@ -143,8 +143,8 @@ def taken_with_line():
     for words, name, why in TAKEN:
         equal(said_of_taken(*words), f"kangarood: {name}: taken, and without effect: {why}\n", f"what {words} say")
     both = said_of_taken("-f", "2", "-o", "no_modern,idle_timeout=5,lru_maintainer", "-k")
-    equal([line.split(":")[1] for line in both.splitlines()], [" -f, --slab-growth-factor", " -o no_modern", " -o lru_maintainer", " -k, --lock-memory"],
-          "a line each")
+    names = [line.split(": ")[1] for line in both.splitlines()]
+    equal(names, ["-f, --slab-growth-factor", "-o no_modern", "-o lru_maintainer", "-k, --lock-memory"], "a line each")
 
 
 @shows(f"{len(SO_ANYWAY)} options of memcached's that say what is so anyway are taken in silence")
