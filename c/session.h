@@ -47,9 +47,10 @@ typedef enum ks_stats {
     KS_STATS_SLABS = 4,    /* stats slabs */
     KS_STATS_SIZES = 5,    /* stats sizes */
     KS_STATS_RESET = 6,    /* stats reset: the server sets its counts to 0, and writes no line */
-    KS_STATS_UNKNOWN = 7,  /* any other word: the server writes no line, and the step answers ERROR */
-    KS_STATS_CACHEDUMP = 8, /* stats cachedump: the server writes no line, since no list of items is kept */
-    KS_STATS_DETAIL = 9     /* stats detail on, off or dump: the server writes no line; the step answers OK, or ends no lines */
+    KS_STATS_UNKNOWN = 7,   /* any other word: the server writes no line, and the step answers ERROR */
+    KS_STATS_CACHEDUMP = 8, /* stats cachedump, stats detail dump: the server writes no line, since no list of items is kept */
+    KS_STATS_DETAIL = 9,   /* stats detail on, stats detail off: nothing changes, and the step answers OK */
+    KS_STATS_WRONG_DETAIL = 10 /* stats detail with another word or none: the server writes no line, and the step says what to give */
 } ks_stats;
 
 typedef struct ks_wanted {

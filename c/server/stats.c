@@ -391,7 +391,8 @@ static void lines_of(lines *to, server *of, ks_stats which) {
     case KS_STATS_SLABS: slabs(to, of); break;
     case KS_STATS_SIZES: line(to, "sizes_status", "disabled"); break;
     case KS_STATS_RESET: reset(of); break;
-    case KS_STATS_CONNS: case KS_STATS_ITEMS: case KS_STATS_UNKNOWN: case KS_STATS_CACHEDUMP: case KS_STATS_DETAIL: default: break;
+    case KS_STATS_CONNS: case KS_STATS_ITEMS: case KS_STATS_UNKNOWN: case KS_STATS_CACHEDUMP: case KS_STATS_DETAIL:
+    case KS_STATS_WRONG_DETAIL: default: break;
     }
 }
 
