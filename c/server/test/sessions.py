@@ -140,6 +140,80 @@ def endless_value():
         grew_little(it, before, 1024)
 
 
+FLUSH = b"\r\nflush_all\r\n"
+BAD_LINE = b"CLIENT_ERROR bad command line format\r\n"
+LONG_KEY = b"k" * 251
+# Lines that are refused, of a block of 9 bytes, and what is answered.
+REFUSED_LINES = [
+    (b"set k 0 9223372036854775808 9", BAD_LINE),
+    (b"set k 0 x 9", BAD_LINE),
+    (b"add k -1 0 +9", BAD_LINE),
+    (b"set " + LONG_KEY + b" 0 0 9", BAD_LINE),
+    (b"cas k 0 0 9 x", BAD_LINE),
+    (b"cas k 0 0 9", b"ERROR\r\n"),
+    (b"replace k 0 0 9 1 2 3", b"ERROR\r\n"),
+    (b"append k 0 x 9 noreply", b""),
+    (b"ms k 9 Tx", b"CLIENT_ERROR bad token in command line format\r\n"),
+    (b"ms k 9 q q", b"CLIENT_ERROR duplicate flag\r\n"),
+    (b"ms " + LONG_KEY + b" 9", BAD_LINE),
+    (b"ms k 9" + b" O" * 17, b"CLIENT_ERROR options flags too long\r\n"),
+]
+# Lines of which nobody can tell how long their block is.
+LINES_WITHOUT_LENGTH = [
+    (b"set k 0 0 2147483648", BAD_LINE),
+    (b"set k 0 0 4294967305", BAD_LINE),
+    (b"set k 0 0 -9", BAD_LINE),
+    (b"set k 0 0 9x", BAD_LINE),
+    (b"set k 0 0", b"ERROR\r\n"),
+    (b"prepend", b"ERROR\r\n"),
+    (b"cas k 0 0 x 1 noreply", b""),
+    (b"ms k x", BAD_LINE),
+    (b"ms k", BAD_LINE),
+]
+
+
+@shows("a block of a refused line is never run as a request, however it is cut")
+def refused_blocks():
+    with server() as it:
+        client = it.client()
+        client.ask(b"set kept 0 0 2\r\nhi\r\n", b"STORED\r\n")
+        for line, answer in REFUSED_LINES:
+            client.ask(line + FLUSH + b"mn\r\n", answer + b"MN\r\n", line)
+            for byte in line + FLUSH:
+                client.send(bytes([byte]))
+            client.ask(b"get kept\r\n", answer + b"VALUE kept 0 2\r\nhi\r\nEND\r\n", line)
+
+
+@shows("a line whose block has no length that can be read closes its client")
+def blocks_without_length():
+    with server() as it:
+        it.client().ask(b"set kept 0 0 2\r\nhi\r\n", b"STORED\r\n")
+        for line, answer in LINES_WITHOUT_LENGTH:
+            client = it.client()
+            client.ask(line + FLUSH, answer, line)
+            expect(client.is_closed(), f"closed after {line}")
+        it.client().ask(b"get kept\r\n", b"VALUE kept 0 2\r\nhi\r\nEND\r\n")
+
+
+# What libmemcached writes for -1, and other numbers beyond 32 bits: whether the value is there after them.
+EXPIRIES = [
+    (b"0", True), (b"-0", True), (b"100", True), (b"+100", True), (b"4294967396", True), (b"4294967296", True),
+    (b"-1", False), (b"4294967295", False), (b"2147483648", False), (b"9223372036854775807", False), (b"-9223372036854775808", False),
+]
+
+
+@shows("an expiry of any width is taken, and a negative one has passed")
+def expiries():
+    with server() as it:
+        client = it.client()
+        for word, is_there in EXPIRIES:
+            found = b"VALUE k 7 1\r\nx\r\nEND\r\n" if is_there else b"END\r\n"
+            client.ask(b"set k 4294967303 " + word + b" +1\r\nx\r\n", b"STORED\r\n", word)
+            client.ask(b"get k\r\n", found, word)
+            client.ask(b"set k 7 0 1\r\nx\r\ntouch k " + word + b"\r\nget k\r\n", b"STORED\r\nTOUCHED\r\n" + found, word)
+            client.ask(b"ms k 1 F7 T" + word + b"\r\nx\r\nget k\r\n", b"HD\r\n" + found, word)
+
+
 @shows("bytes of the binary protocol end the connection")
 def binary():
     with server() as it:
