@@ -15,7 +15,7 @@ class Options(ctypes.Structure):
     _fields_ = [("size", Word), ("flags", Word), ("flash_bytes", Number), ("memory_bytes", Number)] + [
         (name, Word)
         for name in "object_bytes threads upkeep_threads admit threshold lease_slots shards lanes sets "
-        "memory_objects segments segment_pages log_objects reserved".split()
+        "memory_objects segments segment_pages log_objects bring_back".split()
     ]
 
 
@@ -76,6 +76,9 @@ class Cache:
         """Options are the fields of kangaroo_options, for instance flash_bytes=2**30."""
         wanted, self.handle, cause = Options(), ctypes.c_void_p(), ctypes.c_int()
         LIBRARY.kangaroo_options_init(wanted, ctypes.sizeof(wanted))
+        unknown = sorted(set(options) - {name for name, _ in Options._fields_})
+        if unknown:
+            raise TypeError(f"kangaroo_options has no field {', '.join(unknown)}")
         for name, number in options.items():
             setattr(wanted, name, number)
         status = LIBRARY.kangaroo_open(wanted, os.fsencode(folder), self.handle, cause)
