@@ -181,16 +181,16 @@ void tell(unsigned level, const char *format, ...) {
 }
 
 void tell_bytes(unsigned level, int fd, char arrow, const void *bytes, size_t length) {
-    char shown[SHOWN_BYTES + 1];
+    char printed[SHOWN_BYTES + 1];
     const unsigned char *from = bytes;
     size_t count = 0;
     if (verbosity() < level) return;
     while (count < length && count < SHOWN_BYTES && from[count] != '\r' && from[count] != '\n') {
-        shown[count] = from[count] >= ' ' && from[count] <= '~' ? (char)from[count] : '.';
+        printed[count] = from[count] >= ' ' && from[count] <= '~' ? (char)from[count] : '.';
         count++;
     }
-    shown[count] = 0;
-    tell(level, "%c%d %s%s", arrow, fd, shown, count == SHOWN_BYTES ? ".." : "");
+    printed[count] = 0;
+    tell(level, "%c%d %s%s", arrow, fd, printed, count == SHOWN_BYTES ? ".." : "");
 }
 
 void tell_systemd(const char *state) {
