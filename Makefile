@@ -1,6 +1,6 @@
 # The program and its manual page. c/Makefile has the C library, docs/CLI.md what the program does.
 #
-#   make                    the program, proved first; README.md, "Three commands", has how long that takes the first time
+#   make                    the program, proved first; CONTRIBUTING.md, "What three commands take", has how long that takes the first time
 #   make install PREFIX=..  the program as kangaroo, its manual page, and what shells complete
 #   make uninstall PREFIX=..   removes these files again
 #
