@@ -112,7 +112,7 @@ static void read_known(server *of, known *to) {
     (void)kangaroo_sizes_of(&options, &to->of_stored, sizeof to->of_stored);
 }
 
-/* How many objects left the log for a set, if none left it because its key was stored anew or removed: these are counted too. */
+/* How many objects moved from the log to a set. Those that left it because their key was stored anew or removed are counted too. */
 static uint64_t moved(const known *of) {
     return less(of->counted.logged, of->counted.dropped + of->counted.log_objects_now);
 }

@@ -99,23 +99,24 @@ def items():
         equal(item_lines(client)["get_expired"], 0, "after stats reset")
 
 
-@shows("with more items than there is room for, curr_items and bytes stay below what there is room for, and evictions never fall")
+@shows("with more items than there is room for, bytes stay below that room, and each item is among curr_items or evictions, which never fall")
 def full():
-    with server("-m", "1", "--flash", "1M") as it:
-        client, limit = it.client(), int(it.client().stats()["limit_maxbytes"])
-        equal(limit, (1 << 20) + sum_of_files(it.folder), "limit_maxbytes, of memory and flash")
-        before, most = 0, 0
-        for first in range(0, 60000, 2000):
-            client.send(b"".join(b"set key%05d 0 0 91 noreply\r\n%091d\r\n" % (number, number) for number in range(first, first + 2000)))
+    with server("-m", "3", "--flash", "8M") as it:
+        client, limit, before = it.client(), int(it.client().stats()["limit_maxbytes"]), 0
+        equal(limit, (3 << 20) + sum_of_files(it.folder), "limit_maxbytes, of memory and flash")
+        for first in range(0, 200000, 4000):
+            numbers = range(first, first + 4000)
+            client.send(b"".join(b"set key%06d 0 0 90 noreply\r\n%090d\r\n" % (number, number) for number in numbers))
             now = item_lines(client)
             expect(now["evictions"] >= before, f"evictions fell from {before} to {now['evictions']}")
             expect(now["bytes"] <= limit, f"{now['bytes']} bytes where there is room for {limit}")
-            expect(now["curr_items"] <= first + 2000, f"{now['curr_items']} items of {first + 2000}")
-            before, most = now["evictions"], max(most, now["curr_items"])
-        expect(5000 < most < 15000, f"at most {most} items of 108 bytes in 2 MiB")
-        expect(40000 < before < 60000, f"{before} evictions of 60,000 items")
+            equal(now["bytes"], 108 * now["curr_items"], "bytes, of key, value and 9 more")
+            known = now["curr_items"] + now["evictions"]
+            expect(0.9 * (first + 4000) <= known <= 1.1 * (first + 4000), f"{known} are known of {first + 4000}")
+            before = now["evictions"]
+        expect(before > 50000, f"{before} evictions of 200,000 items")
         client.ask(b"stats reset\r\n", b"RESET\r\n")
-        expect(item_lines(client)["evictions"] < 100, "evictions after stats reset")
+        expect(item_lines(client)["evictions"] < before / 2, "evictions after stats reset")
 
 
 def sum_of_files(folder):
