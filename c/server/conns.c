@@ -30,13 +30,13 @@ bool make_shown(server *of) {
 }
 
 /* What is shown of a descriptor, or NULL: more were open than this program opens, when it was started. */
-static shown *shown_of(server *of, int fd) {
+static showing *shown_of(server *of, int fd) {
     return (uint32_t)fd < of->shown_room ? &of->shown[fd] : NULL;
 }
 
 /* Shows a descriptor that a client has got. Only the main thread does this. */
 static void show(server *of, int fd) {
-    shown *it = shown_of(of, fd);
+    showing *it = shown_of(of, fd);
     if (it == NULL) return;
     atomic_store(&it->state, CONN_WAITS);
     atomic_store(&it->last_moment, moment_now());
@@ -46,17 +46,17 @@ static void show(server *of, int fd) {
 
 /* Shows a descriptor no more: before it is closed, so that nobody takes the next one of its number for it. */
 static void hide(server *of, int fd) {
-    shown *it = shown_of(of, fd);
+    showing *it = shown_of(of, fd);
     if (it != NULL) atomic_fetch_add(&it->changes, 1);
 }
 
 static void show_state(worker *by, const conn *of, conn_state state) {
-    shown *it = shown_of(by->of, of->fd);
+    showing *it = shown_of(by->of, of->fd);
     if (it != NULL) atomic_store_explicit(&it->state, state, memory_order_relaxed);
 }
 
 static void show_moment(worker *by, conn *of) {
-    shown *it = shown_of(by->of, of->fd);
+    showing *it = shown_of(by->of, of->fd);
     uint64_t now = moment_now();
     atomic_store_explicit(&of->last_moment, now, memory_order_relaxed);
     if (it != NULL) atomic_store_explicit(&it->last_moment, now, memory_order_relaxed);

@@ -198,12 +198,12 @@ struct conn {
 
 /* What stats conns shows of a descriptor. It is written by whoever opens, serves and closes its connection, and read by any worker
  * without a lock. */
-typedef struct shown {
+typedef struct showing {
     atomic_uint changes; /* how often a client got it and left it: odd while one has it */
     atomic_uint state;   /* a conn_state */
     atomic_uint_least64_t last_moment;
     uint8_t apart[48]; /* a neighbour's client may be another worker's: a cache line each, wherever in it the table begins */
-} shown;
+} showing;
 
 /* Makes the table of what is shown, for as many descriptors as the settings need. False: memory was refused. */
 bool make_shown(server *of);
@@ -261,7 +261,7 @@ struct server {
     atomic_uint_least64_t evicted_at_reset, expired_at_reset;
     atomic_bool is_stopping;
     atomic_uint_least64_t curr_conns, total_conns, rejected_conns;
-    shown *shown; /* by descriptor */
+    showing *shown; /* by descriptor */
     uint32_t shown_room;
     atomic_uint shown_end; /* one more than the greatest descriptor that a client had */
     atomic_uint shown_count; /* how many descriptors clients had */

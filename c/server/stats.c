@@ -352,7 +352,7 @@ static void lines_of_listener(lines *to, const server *of, int fd) {
 static bool lines_of_client(lines *to, const server *of, uint32_t fd) {
     static const char *const states[] = {
         [CONN_WAITS] = "conn_read", [CONN_HALF] = "conn_nread", [CONN_SENDS] = "conn_mwrite", [CONN_SERVED] = "conn_parse_cmd"};
-    shown *shows = &of->shown[fd];
+    showing *shows = &of->shown[fd];
     unsigned changes = atomic_load(&shows->changes);
     if (changes % 2 == 0) return false;
     told_socket it = {.state = states[atomic_load(&shows->state)], .last_moment = atomic_load(&shows->last_moment)};
