@@ -343,9 +343,10 @@ static void take_option(int letter, char *value, settings *to) {
         if (options_foreign[i].letter == letter) take_foreign(&options_foreign[i], value);
 }
 
-static void refuse_pairs(const settings *of) {
+/* -l and -p with -s are taken without effect, as memcached takes them. */
+static void check_pairs(const settings *of) {
     if (of->socket_path != NULL && (of->listen != NULL || of->port != 0))
-        end_by_words("-s: a Unix socket stands in place of TCP: leave -l and -p out, or -s");
+        meet(FATE_LINE, "-l, -p", "with -s a Unix socket stands in place of TCP");
     if (of->socket_path == NULL && of->socket_mode != UINT64_MAX)
         end_by_words("-a: this is the mode of a Unix socket: give -s too, or leave it out");
 }
@@ -364,7 +365,7 @@ void read_words(int count, char **words, settings *to) {
         take_option(letter, optarg, to);
     }
     if (optind < count) end_by_words("%s: this is no option", words[optind]);
-    refuse_pairs(to);
+    check_pairs(to);
     if (to->port == 0) to->port = 11211;
     if (to->socket_mode == UINT64_MAX) to->socket_mode = 0700;
     if (to->listen == NULL) to->listen = "127.0.0.1";

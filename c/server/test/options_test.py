@@ -28,7 +28,6 @@ WRONG = [
     (["-o", "ext_path"], "-o ext_path: it needs a value"),
     (["-o", "drop_privileges"], "-o drop_privileges: no call of the system is given up: use SystemCallFilter= of systemd"),
     (["-o", "sock_cookie_id=1"], "-o sock_cookie_id: sockets are not marked: have the firewall filter by port or user"),
-    (["-s", "x", "-p", "1"], "-s: a Unix socket stands in place of TCP: leave -l and -p out, or -s"),
     (["-s", ""], "-s: its value is empty; give FILE"),
     (["-p"], "-p: it needs a value"),
     (["--folder"], "--folder: it needs a value"),
@@ -91,6 +90,8 @@ WATCH = "there is no command watch"
 FILES = "give --folder and --flash for the files on flash"
 # What is taken without effect: the words, how the line names them, and what it says.
 TAKEN = [
+    (["-p", "11211"], "-l, -p", "with -s a Unix socket stands in place of TCP"),
+    (["-l", "127.0.0.1", "-l", "::1"], "-l, -p", "with -s a Unix socket stands in place of TCP"),
     (["-f", "1.25"], "-f, --slab-growth-factor", SLABS),
     (["-n", "48"], "-n, --slab-min-size", SLABS),
     (["-L"], "-L, --enable-largepages", SLABS),
