@@ -55,11 +55,13 @@ SIMPLE = {"N": [b"30", b"0", b"100"], "T": [b"0", b"100", b"1000", b"-1"], "R": 
 MODES = {"ms": b"EAPRS", "ma": b"ID+-"}
 OTHER_LINES = [b"foo", b"", b" ", b"g", b"GET a", b"gx", b"geta a", b"bget a", b"m", b"mx a", b"mn a b", b"version", b"version 1", b"stats foo",
                b"stats detail", b"stats detail on", b"stats detail off", b"stats detail x", b"stats cachedump", b"stats cachedump 60 0",
-               b"stats cachedump x 0", b"stats cachedump 99 0", b"stats reset", b"stats sizes", b"me", b"me a", b"me zz", b"slabs", b"lru", b"lru_crawler",
-               b"slabs automove 0", b"slabs reassign 1 2", b"lru mode flat", b"lru tune 10 20 1.0 1.0", b"lru_crawler tocrawl 5", b"lru_crawler sleep 5",
-               b"cache_memlimit", b"cache_memlimit x", b"cache_memlimit 64", b"watch foo", b"shutdown", b"extstore", b"verbosity", b"gx HTTP/1.1",
-               b"\x80get a", b"get a\x00b", b"get \x00", b"set", b"delete", b"incr", b"touch", b"flush_all 1 2 3", b"set a 0 0", b"cas a 0 0 1"]
-CLOSING_LINES = [b"quit", b"quit now", b"foo HTTP/1.1", b"GET / HTTP/1.0", b"x" * 3000, b"set " + b"x" * 3000, b"get " + b"x " * 3000]
+               b"stats cachedump x 0", b"stats cachedump 99 0", b"stats reset", b"stats sizes", b"me", b"me a", b"me zz", b"slabs", b"lru",
+               b"lru_crawler", b"slabs automove 0", b"slabs reassign 1 2", b"lru mode flat", b"lru tune 10 20 1.0 1.0", b"lru_crawler tocrawl 5",
+               b"lru_crawler sleep 5", b"cache_memlimit", b"cache_memlimit x", b"cache_memlimit 64", b"watch foo", b"shutdown", b"extstore",
+               b"verbosity", b"gx HTTP/1.1",
+               b"get a\x00b", b"get \x00", b"delete", b"incr", b"touch", b"flush_all 1 2 3"]
+CLOSING_LINES = [b"set", b"ms", b"set a 0 0", b"cas a 0 0 1", b"append", b"\x80get a", b"quit", b"quit now", b"foo HTTP/1.1", b"GET / HTTP/1.0",
+                 b"x" * 3000, b"set " + b"x" * 3000, b"get " + b"x " * 3000]
 
 
 class Command:
@@ -134,12 +136,15 @@ class Maker:
 
     def cas_number(self, key):
         """A number of an item: the key's own, as a mark that is replaced as it is sent, one off it, or nobody's."""
-        return self.choose([b"\x01%s+0\x01", b"\x01%s+0\x01", b"\x01%s+1\x01", b"\x01%s-1\x01"]) % key if self.is_so(0.8) else self.choose([b"0", b"4611686018427387904"])
+        if self.is_so(0.2):
+            return self.choose([b"0", b"4611686018427387904"])
+        return self.choose([b"\x01%s+0\x01", b"\x01%s+0\x01", b"\x01%s+1\x01", b"\x01%s-1\x01"]) % key
 
     def length(self, data):
         """A length that is odd, and its kind."""
         count = len(data)
-        near = {"exact +N": b"+%d" % count, "exact 00N": b"00%d" % count, "exact with a tab": b"%d\t" % count, "exact+2^32": b"%d" % (count + 2 ** 32),
+        near = {"exact +N": b"+%d" % count, "exact 00N": b"00%d" % count, "exact with a tab": b"%d\t" % count,
+                "exact+2^32": b"%d" % (count + 2 ** 32),
                 "exact-2^32": b"%d" % (count - 2 ** 32), "one more": b"%d" % (count + 1), "one less": b"%d" % max(0, count - 1)}
         if self.is_so(0.5):
             kind = self.choose(list(near))
@@ -192,15 +197,14 @@ class Maker:
             words.append(b"noreply")
         it = Command("store", self.ended(words, faults) + block, key, faults)
         it.is_quiet, it.resets = is_quiet, verb == b"set" and not count
-        it.is_last = self.is_hungry(words[4] if len(words) > 4 else b"", block)
+        it.is_last = self.ends_round(words[4] if len(words) > 4 else b"", block)
         return it
 
-    def is_hungry(self, word, block):
-        """Whether a server may wait for more bytes than come."""
-        read = memcached_reads(word)
-        text = word.strip(b"\t\v\f\r+").split(b"\x00")[0]
-        plain = int(text[:400]) if text.isdigit() else 0
-        return max(read or 0, plain if plain < 2 ** 31 else 0) + 2 > len(block) + 3
+    def ends_round(self, word, block):
+        """Whether a server may wait for more bytes than come, by the word for the length, or close since it cannot read that word."""
+        if not re.fullmatch(rb"\+?\d+", word) or int(word[:400]) >= 2 ** 31:
+            return True
+        return max(memcached_reads(word) or 0, int(word)) + 2 > len(block) + 3
 
     def spoil_storing(self, words, data, block, faults):
         """Puts a fault into a storing command; returns its block."""
@@ -220,7 +224,8 @@ class Maker:
         else:
             kind = self.choose(["no CR", "longer", "shorter", "another end"])
             faults.append(("block", kind))
-            return {"no CR": data + b"\n\n", "longer": data + b"more\r\n", "shorter": data[1:] + b"\r\n\r\n", "another end": data + b"\rX\r\n"}[kind]
+            return {"no CR": data + b"\n\n", "longer": data + b"more\r\n", "shorter": data[1:] + b"\r\n\r\n",
+                    "another end": data + b"\rX\r\n"}[kind]
         return block
 
     def getting(self):
@@ -275,7 +280,8 @@ class Maker:
     def counting(self):
         """incr or decr."""
         key = b"n" if self.is_so(0.5) else self.choose(KEYS)
-        return self.line_of("count", [self.choose([b"incr", b"decr"]), key, self.choose([b"0", b"1", b"5", b"10", b"99", b"18446744073709551615"])], 2, "delta")
+        delta = self.choose([b"0", b"1", b"5", b"10", b"99", b"18446744073709551615"])
+        return self.line_of("count", [self.choose([b"incr", b"decr"]), key, delta], 2, "delta")
 
     def deleting(self):
         """delete."""
@@ -375,7 +381,7 @@ class Maker:
         it = Command(verb, self.ended(words + flags, faults) + block, key, faults)
         it.is_quiet = any(word[:1] == b"q" for word in flags)
         it.resets = verb in ("ms", "md") and not faults and all(word[:1] not in b"CMIN" for word in flags)
-        it.is_last = verb == "ms" and self.is_hungry(words[2] if len(words) > 2 else flags[0] if flags else b"", block)
+        it.is_last = verb == "ms" and self.ends_round(words[2] if len(words) > 2 else flags[0] if flags else b"", block)
         return it
 
     def other(self):

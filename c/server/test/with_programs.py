@@ -13,7 +13,8 @@ import harness
 
 LONG = b"v" * 5000
 NGINX = """user root; daemon off; worker_processes 1; pid {folder}/nginx.pid; error_log {folder}/nginx.log; events {{ worker_connections 100; }}
-http {{ access_log off; client_body_temp_path {folder}/1; proxy_temp_path {folder}/2; fastcgi_temp_path {folder}/3; uwsgi_temp_path {folder}/4; scgi_temp_path {folder}/5;
+http {{ access_log off; client_body_temp_path {folder}/1; proxy_temp_path {folder}/2; fastcgi_temp_path {folder}/3;
+  uwsgi_temp_path {folder}/4; scgi_temp_path {folder}/5;
   upstream cache {{ server 127.0.0.1:{port}; keepalive 8; }}
   server {{ listen 127.0.0.1:{front};
     location / {{ set $memcached_key $uri; memcached_pass cache; default_type text/plain; error_page 404 502 = @origin; }}
@@ -192,9 +193,9 @@ def with_nutcracker(program, folder, server, port):
         counts = [int(harness.Client(("127.0.0.1", at)).stats()["cmd_set"]) for at in (port, second)]
         yield "both servers have some of them", min(counts) > 50
         yield "a get of 400 keys", many(client, keys)
-        yield "incr, append, touch, delete", (stored(client, b"n", b"5") and answers(client, b"incr n 3\r\n", b"8\r\n") and stored(client, b"j", b"a")
-                                              and answers(client, b"append j 0 0 1\r\nb\r\n", b"STORED\r\n") and has(client, b"j", b"ab")
-                                              and answers(client, b"touch j 100\r\n", b"TOUCHED\r\n") and answers(client, b"delete j\r\n", b"DELETED\r\n"))
+        yield "incr", stored(client, b"n", b"5") and answers(client, b"incr n 3\r\n", b"8\r\n")
+        yield "append", stored(client, b"j", b"a") and answers(client, b"append j 0 0 1\r\nb\r\n", b"STORED\r\n") and has(client, b"j", b"ab")
+        yield "touch, delete", answers(client, b"touch j 100\r\n", b"TOUCHED\r\n") and answers(client, b"delete j\r\n", b"DELETED\r\n")
         client.send(b"gets n\r\n")
         number = client.take_to(b"END\r\n").split(b"\r\n")[0].split()[-1]
         yield "cas", answers(client, b"cas n 0 0 1 %s\r\n9\r\n" % number, b"STORED\r\n") and has(client, b"n", b"9")

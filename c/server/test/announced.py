@@ -1,0 +1,92 @@
+"""Which differences between memcached and kangarood docs/SERVER.md announces, each with the sentence that does. beside-memcached gives
+cases: a command with its faults, and both answers to it."""
+import re
+
+BAD_LINE, NO_NUMBER = b"CLIENT_ERROR bad command line format", b"CLIENT_ERROR cannot increment or decrement non-numeric value"
+MARKS = rb"(?m)^((?:VA|HD|EN)[^\r]*?)((?: [WXZ])+)(?= |\r)"
+
+
+def squeezed(answer):
+    """An answer whose numbers have no spaces after them, and whose values no length."""
+    answer = re.sub(rb"^(VALUE \S+ \d+) \d+|^(VA) \d+", rb"\1\2", answer, flags=re.M)
+    return re.sub(rb"(?<=\d) +", b"", re.sub(rb"^((?:VA|HD)[^\r]*) s\d+", rb"\1", answer, flags=re.M))
+
+
+def without_lifetime(answer):
+    """An answer of a meta command without the flag t."""
+    return re.sub(rb"^((?:VA|HD)[^\r]*?) t\S+", rb"\1", answer, flags=re.M)
+
+
+def is_longer_number(it):
+    """A number that got shorter: memcached counts by data of another length."""
+    return it.theirs != it.ours and squeezed(it.theirs) == squeezed(it.ours)
+
+
+def is_error(answer):
+    """Whether an answer begins with an error, or nothing comes any more."""
+    return re.match(rb"ERROR|CLIENT_ERROR|SERVER_ERROR|\(closed\)", answer) is not None
+
+
+def first_line(answer):
+    """The first line of an error."""
+    return answer.split(b"\r\n")[0] if is_error(answer) else b""
+
+
+def is_block_run(it):
+    """memcached runs the block of a storing line that both refuse, or that it refuses in silence."""
+    if it.command.family not in ("store", "ms") or not it.command.faults:
+        return False
+    ours = it.our_answer.replace(b"(closed)\r\n", b"")
+    return first_line(ours) == first_line(it.their_answer) != b"" or ours == b"" and b"noreply" in it.line
+
+
+def is_length_refused(it):
+    """A length that memcached reads and that is none here."""
+    return it.command.family in ("store", "ms") and it.has_fault("length", "words") and b"(closed)" in it.ours
+
+
+def is_refused_by_name(it):
+    """A command or a flag that is never served."""
+    return it.line.startswith(b"me") or it.has_fault("flag") and re.search(rb" [bhl][ \r]", it.command.sent)
+
+
+def is_wrong_key(it):
+    """A key that is too long among others."""
+    return it.command.family in ("get", "gat") and BAD_LINE in it.theirs and BAD_LINE in it.ours
+
+
+def is_minus_expiry(it):
+    """An expiry with a minus sign, of which memcached takes the lower half."""
+    return it.has_fault("exptime", "a number of N, T, R", "delay") and it.has_kind("-2^63", "-2^32+100") and not is_error(it.ours)
+
+
+# sentences of docs/SERVER.md, and which differences they announce
+ANNOUNCED = [
+    ("values have at most 2,039 bytes", lambda it: b"too large for cache" in it.ours and b"too large" not in it.theirs),
+    ("me, b, h and l are refused by name", is_refused_by_name),
+    ("the block of a refused storing line is passed over, or the client closed", is_block_run),
+    ("a length is a number from 0 to 2^31 - 1", is_length_refused),
+    ("an expiry with a minus sign has passed, whatever its size", is_minus_expiry),
+    ("a minus sign refuses any number but an expiry", lambda it: it.has_kind("-0", "-2^63-1", "-2^64+1") and is_error(it.ours)),
+    ("a byte beside the digits refuses a number", lambda it: it.has_kind("a tab") and is_error(it.ours)),
+    ("a NUL does not end a line", lambda it: b"\x00" in it.line),
+    ("mg and ma with an opaque token that is too long do nothing", lambda it: it.has_fault("O") and b"opaque token too long" in it.ours),
+    ("the keys before a wrong one are answered", is_wrong_key),
+    ("spaces after a number keep the length of the data", is_longer_number),
+    ("memcached takes other bytes beside a number's digits", lambda it: NO_NUMBER in it.ours and NO_NUMBER not in it.theirs),
+    ("an item without data is compared before it is found to be no number",
+     lambda it: it.our_answer.startswith(b"EX") and NO_NUMBER in it.theirs),
+    ("t tells the expiry that a new item has",
+     lambda it: b" N" in it.line and without_lifetime(it.theirs) == without_lifetime(it.ours)),
+    ("the marks stale and won stay if a number gets longer",
+     lambda it: not re.search(MARKS, it.theirs) and it.theirs == re.sub(MARKS, rb"\1", it.ours)),
+    ("a line whose last word begins with HTTP/ closes, and so does the byte 0x80", lambda it: b"HTTP/" in it.line or it.line.startswith(b"\x80")),
+    ("watch, lru_crawler, slabs, lru, cache_memlimit, bget are not served",
+     lambda it: it.command.family == "line" and re.match(rb"watch|lru|slabs|cache_memlimit|bget|extstore", it.line)),
+    ("stats cachedump lists nothing", lambda it: it.line.startswith(b"stats cachedump") and it.ours == b"END\r\n"),
+]
+
+
+def reason(it):
+    """The sentence that announces a difference, or None."""
+    return next((sentence for sentence, is_meant in ANNOUNCED if is_meant(it)), None)
