@@ -1,4 +1,5 @@
 /* Bytes that wait to be taken or sent. */
+#define _GNU_SOURCE
 #include "server.h"
 #include <stdlib.h>
 #include <string.h>
