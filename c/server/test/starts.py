@@ -103,7 +103,7 @@ def wrong_file(kind, path, victim):
 @shows("a file of the folder that somebody made before, a link, one with two names, another user's, is refused by name, with what to do, and left")
 def files_of_others():
     kinds = ["is no plain file", "has another name too", *(["belongs to another user"] if os.geteuid() == 0 else [])]
-    for name in ("kangaroo.lock", "kangaroo-3.dev"):
+    for name in ("kangaroo.lock", "kangaroo-1.dev"):
         for kind in kinds:
             it = Server(wait=False)
             it.remove()

@@ -55,7 +55,7 @@ def nobody_reads():
             text = take_lines(reads, LOST)
             lines = text.split(b"\n")
             expect(all(LINE.fullmatch(line) for line in lines[:-1]), f"whole lines, with {kind}")
-            told = len([line for line in lines if line.startswith(b"<") and b" get a" in line])
+            told = len([line for line in lines if re.fullmatch(rb"<\d+ a", line)])
             expect(1000 < told < 20_001 and int(LOST.search(text)[1]) > 1000, f"{told} gets were told, with {kind}")
             ask_for_lines(first, 20_000)
             equal(it.stop(), 0, f"the status, with {kind} that nobody reads")
@@ -80,7 +80,7 @@ def somebody_reads():
                 client.ask(b"get k%d\r\n" % number, b"END\r\n")
             equal(it.stop(), 0, "the status")
             reader.join(10)
-            asked = re.findall(rb"get k(\d+)", got[0])
+            asked = re.findall(rb"<\d+ k(\d+)\n", got[0])
             equal([int(number) for number in asked], list(range(1000)), f"the gets that were told, with {kind}")
             expect(got[0].startswith(b"kangarood: serves\n") and b"kangarood: ends by Terminated\n" in got[0], got[0][-200:])
         finally:
