@@ -1,6 +1,7 @@
 /* Four threads on one cache over files. Each key is written by one thread alone, with rising versions, and any thread
  * gets it. A hit is right where its version is no older than what was done before the get began, no newer than what had
- * begun when it ended, and none that removed the key. Own memory stays flat. */
+ * begun when it ended, and none that removed the key. Meanwhile a fifth thread reads the counters, of which none falls, and does
+ * steps of upkeep. Own memory stays flat. */
 #include "test.h"
 #include <pthread.h>
 #include <stdatomic.h>
@@ -9,7 +10,8 @@ enum { THREADS = 4, KEYS = 20000, SIZE = 100, PUTS = 28, REMOVALS = 2 };
 
 static kangaroo_cache *cache;
 static atomic_uint_least64_t begun[KEYS], done[KEYS]; /* the version, twice, and 1 where it is a removal */
-static atomic_long wrong, refused, hits[4], misses;
+static atomic_long wrong, refused, hits[4], misses, readings;
+static atomic_bool is_over;
 static long operations;
 
 typedef struct value {
@@ -73,11 +75,30 @@ static void *call(void *number) {
     return NULL;
 }
 
+/* What calls of before added to the counters is in them later, too. */
+static void *count(void *nothing) {
+    kangaroo_counters before = {0}, now;
+    while (!atomic_load(&is_over)) {
+        expect_status(kangaroo_counters_read(cache, &now, sizeof now), KANGAROO_OK, "counters");
+        expect(now.puts >= before.puts && now.removes >= before.removes && now.memory_hits >= before.memory_hits &&
+                   now.logged >= before.logged && now.upkeep_steps >= before.upkeep_steps, "no counter falls");
+        expect_status(kangaroo_upkeep(cache, 1, NULL), KANGAROO_OK, "a step of upkeep");
+        before = now;
+        readings++;
+        usleep(200);
+    }
+    return nothing;
+}
+
 static void run_threads(void) {
-    pthread_t threads[THREADS];
+    pthread_t threads[THREADS], counts;
+    atomic_store(&is_over, false);
+    expect(pthread_create(&counts, NULL, count, NULL) == 0, "a thread");
     for (uintptr_t i = 0; i < THREADS; i++)
         expect(pthread_create(&threads[i], NULL, call, (void *)i) == 0, "a thread");
     for (int i = 0; i < THREADS; i++) pthread_join(threads[i], NULL);
+    atomic_store(&is_over, true);
+    pthread_join(counts, NULL);
 }
 
 int main(void) {
@@ -104,6 +125,7 @@ int main(void) {
          counters.put_steps, counters.log_full);
     show("objects brought back %lu, hits of their copies %lu; copies dropped %lu", counters.brought_back,
          counters.copy_hits, counters.pushed_copies);
+    show("counters read %ld times beside them: none fell", readings);
     show("own memory %ld KiB behind a quarter, %ld at the end", before, after);
     expect(wrong == 0 && refused == 0, "no hit is wrong and no call refused");
     expect(hits[1] > 0 && hits[2] > 0 && hits[3] > 0, "hits in each tier");
