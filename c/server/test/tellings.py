@@ -64,6 +64,30 @@ def nobody_reads():
             os.close(reads)
 
 
+@shows("lines that are lost are counted in their place: up to it none is missing, and none comes before its turn")
+def lost_in_their_place():
+    reads, writes = os.pipe()
+    it = Server("-t", "1", stderr=writes)
+    os.close(writes)
+    try:
+        client = it.client()
+        client.ask(b"verbosity 2\r\n", b"OK\r\n")
+        for first in range(0, 20_000, 500):
+            asked = [b"get k%d%s\r\n" % (number, b"x" * 200) for number in range(first, first + 500)]
+            client.ask(b"".join(asked), b"END\r\n" * 500)
+        client.ask(b"verbosity 0\r\n", b"OK\r\n")
+        text = take_lines(reads, LOST)
+        lines = text[: LOST.search(text).start()].splitlines()
+        asked = [int(number) for number in re.findall(rb"get k(\d+)x", b"".join(lines))]
+        equal(asked, list(range(len(asked))), "the gets that were told before the count of those that were not")
+        answers = [line[:1] for line in lines if b" get k" in line or line.endswith(b" END")]
+        expect(answers == [b"<", b">"] * (len(answers) // 2) + [b"<"] * (len(answers) % 2), "each get, and its answer after it")
+        equal(it.stop(), 0, "the status")
+    finally:
+        it.remove()
+        os.close(reads)
+
+
 @shows("who reads standard error gets each line, whole and in order, up to the last")
 def somebody_reads():
     for kind in ("a pipe", "a pair of sockets"):
