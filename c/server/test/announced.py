@@ -27,6 +27,11 @@ def is_error(answer):
     return re.match(rb"ERROR|CLIENT_ERROR|SERVER_ERROR|\(closed\)", answer) is not None
 
 
+def is_refused(it):
+    """Whether a command is refused here, aloud or in silence."""
+    return is_error(it.ours) or it.command.is_quiet and not it.our_answer
+
+
 def first_line(answer):
     """The first line of an error."""
     return answer.split(b"\r\n")[0] if is_error(answer) else b""
@@ -34,10 +39,12 @@ def first_line(answer):
 
 def is_block_run(it):
     """memcached runs the block of a storing line that both refuse, or that it refuses in silence."""
-    if it.command.family not in ("store", "ms") or not it.command.faults:
+    if not re.match(rb" *(set|add|replace|append|prepend|cas|ms)( |$)", it.line) or not it.command.faults:
         return False
-    ours = it.our_answer.replace(b"(closed)\r\n", b"")
-    return first_line(ours) == first_line(it.their_answer) != b"" or ours == b"" and b"noreply" in it.line
+    ours, is_quiet = it.our_answer.replace(b"(closed)\r\n", b""), b"noreply" in it.line
+    if is_quiet and len(it.command.faults) > 1 and it.has_fault("block", "length"):
+        return True
+    return first_line(ours) == first_line(it.their_answer) != b"" or is_quiet and ours == b""
 
 
 def is_length_refused(it):
@@ -57,7 +64,7 @@ def is_wrong_key(it):
 
 def is_minus_expiry(it):
     """An expiry with a minus sign, of which memcached takes the lower half."""
-    return it.has_fault("exptime", "a number of N, T, R", "delay") and it.has_kind("-2^63", "-2^32+100") and not is_error(it.ours)
+    return it.has_fault("exptime", "a number of N, T, R", "delay") and it.has_kind("-2^63", "-2^32+100", "-2^31") and not is_error(it.ours)
 
 
 # sentences of docs/SERVER.md, and which differences they announce
@@ -67,8 +74,8 @@ ANNOUNCED = [
     ("the block of a refused storing line is passed over, or the client closed", is_block_run),
     ("a length is a number from 0 to 2^31 - 1", is_length_refused),
     ("an expiry with a minus sign has passed, whatever its size", is_minus_expiry),
-    ("a minus sign refuses any number but an expiry", lambda it: it.has_kind("-0", "-2^63-1", "-2^64+1") and is_error(it.ours)),
-    ("a byte beside the digits refuses a number", lambda it: it.has_kind("a tab") and is_error(it.ours)),
+    ("a minus sign refuses any number but an expiry", lambda it: it.has_kind("-0", "-2^63-1", "-2^64+1") and is_refused(it)),
+    ("a byte beside the digits refuses a number", lambda it: it.has_kind("a tab", "two CR") and is_refused(it)),
     ("a NUL does not end a line", lambda it: b"\x00" in it.line),
     ("mg and ma with an opaque token that is too long do nothing", lambda it: it.has_fault("O") and b"opaque token too long" in it.ours),
     ("the keys before a wrong one are answered", is_wrong_key),

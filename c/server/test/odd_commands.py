@@ -10,8 +10,8 @@ DATA = [b"", b"1", b"9", b"10", b"99", b"hello", b"x" * 100, b"18446744073709551
 ODD_DATA = [b"+9", b"-0", b"-1", b" 9", b"9 ab", b"9abc", b" ", b"18446744073709551616", b"9\t", b"0x10", b"-18446744073709551615", b"9" * 25]
 # data near the greatest length of a value here, and longer
 LONG_DATA = [b"m" * 2030, b"m" * 2031, b"m" * 2035, b"m" * 2039, b"m" * 2040, b"m" * 2044, b"m" * 3000, b"m" * 5000]
-# data that does something if a server runs it as commands
-RUN_DATA = [b"flush_all", b"delete b", b"set b 0 0 1\r\n7", b"get a", b"incr n 1", b"touch cc 0", b"ms b 1\r\n8", b"delete a noreply", b"mn"]
+# data that does something if a server runs it as commands, and shows it
+RUN_DATA = [b"flush_all", b"delete b", b"set b 0 0 1\r\n7", b"get a", b"incr n 1", b"touch cc 0", b"ms b 1\r\n8", b"mn"]
 STORING = [b"set", b"set", b"set", b"add", b"replace", b"append", b"prepend"]
 # each kind of number that servers may read in different ways, with some of it
 ODD_NUMBERS = {
@@ -197,7 +197,7 @@ class Maker:
             words.append(b"noreply")
         it = Command("store", self.ended(words, faults) + block, key, faults)
         it.is_quiet, it.resets = is_quiet, verb == b"set" and not count
-        it.is_last = self.ends_round(words[4] if len(words) > 4 else b"", block)
+        it.is_last = self.ends_round(words[4] if len(words) > 4 else b"", block) or ("end", "two CR") in faults
         return it
 
     def ends_round(self, word, block):
@@ -381,7 +381,9 @@ class Maker:
         it = Command(verb, self.ended(words + flags, faults) + block, key, faults)
         it.is_quiet = any(word[:1] == b"q" for word in flags)
         it.resets = verb in ("ms", "md") and not faults and all(word[:1] not in b"CMIN" for word in flags)
-        it.is_last = verb == "ms" and self.ends_round(words[2] if len(words) > 2 else flags[0] if flags else b"", block)
+        if verb == "ms":
+            length = words[2] if len(words) > 2 else flags[0] if flags else b""
+            it.is_last = self.ends_round(length, block) or ("end", "two CR") in faults
         return it
 
     def other(self):
