@@ -52,6 +52,12 @@ def is_length_refused(it):
     return it.command.family in ("store", "ms") and it.has_fault("length", "words") and b"(closed)" in it.ours
 
 
+def is_too_long(it):
+    """A value that is too long here, or in silence was."""
+    stored = re.match(rb"VA (\d+) ", it.their_state)
+    return b"too large for cache" in it.ours and b"too large" not in it.theirs or it.command.is_quiet and stored and int(stored[1]) > 2030
+
+
 def is_refused_by_name(it):
     """A command or a flag that is never served."""
     return it.line.startswith(b"me") or it.has_fault("flag") and re.search(rb" [bhl][ \r]", it.command.sent)
@@ -69,7 +75,7 @@ def is_minus_expiry(it):
 
 # sentences of docs/SERVER.md, and which differences they announce
 ANNOUNCED = [
-    ("values have at most 2,039 bytes", lambda it: b"too large for cache" in it.ours and b"too large" not in it.theirs),
+    ("values have at most 2,039 bytes", is_too_long),
     ("me, b, h and l are refused by name", is_refused_by_name),
     ("the block of a refused storing line is passed over, or the client closed", is_block_run),
     ("a length is a number from 0 to 2^31 - 1", is_length_refused),

@@ -4,6 +4,7 @@ import re
 import time
 
 KEYS = [b"a", b"b", b"cc", b"k" * 250, b"key:7", b"n"]
+ODD_KEYS = [b"w" * 251, b"w" * 300, b"a\tb", b"\x80\xff", b"a\x00b", b"noreply", b"0"]
 DATA = [b"", b"1", b"9", b"10", b"99", b"hello", b"x" * 100, b"18446744073709551615", b"12 ", b"\r\n", b"y" * 30, b"5", b"z" * 1000, b"007",
         b"0" * 20 + b"1"]
 # data that an incr reads as a number or not, by memcached's own rule
@@ -80,8 +81,8 @@ class Command:
         if self.family in ("get", "line", "verbosity"):
             return set()
         if b"flush_all" in self.sent:
-            return set(KEYS)
-        return set(re.split(rb"[\s\x00]", self.sent)) & set(KEYS)
+            return set(KEYS + ODD_KEYS)
+        return set(re.split(rb"[ \r\n]", self.sent) + re.split(rb"[\s\x00]", self.sent)) & set(KEYS + ODD_KEYS)
 
 
 def memcached_reads(word):
@@ -132,7 +133,7 @@ class Maker:
 
     def wrong_key(self):
         """A key that is too long, or has odd bytes."""
-        return self.choose([b"w" * 251, b"w" * 300, b"a\tb", b"\x80\xff", b"a\x00b", b"noreply", b"0"])
+        return self.choose(ODD_KEYS)
 
     def cas_number(self, key):
         """A number of an item: the key's own, as a mark that is replaced as it is sent, one off it, or nobody's."""
@@ -248,7 +249,7 @@ class Maker:
                 words = words[:self.choose([1, 2])]
                 faults.append(("words", "a word less"))
         it = Command("gat" if verb.startswith(b"gat") else "get", self.ended(words, faults), None, faults)
-        it.keys = set(keys)
+        it.keys = set(words[1:])
         it.key = keys[0] if it.family == "gat" else None
         return it
 
