@@ -71,7 +71,7 @@ static uint64_t add(atomic_uint_least64_t *of, uint64_t more) {
 /* Lanes that are due, and were handed over with their lock held. */
 static bool is_handed_over[HANDED_MAX];
 
-static void note_lane(const kangaroo_cache *cache, uint32_t number) {
+static __attribute__((unused)) void note_lane(const kangaroo_cache *cache, uint32_t number) {
     expect(number < HANDED_MAX && place_of(&cache->lanes[number].lock) != NULL, "a lane is handed over in a hold of its lock");
     is_handed_over[number] = true;
 }
@@ -315,12 +315,11 @@ static bool next_order(void) {
     return true;
 }
 
-/* A flush whose moment has come is made by the first command after it. */
-static void note_flush_that_came(int first) {
-    int ended = INT_MAX;
-    for (int i = first; i < call_count; i++)
-        if (calls[i].to < ended) ended = calls[i].to;
-    calls[call_count++] = (call){.is = {.kind = FLUSH}, .from = calls[first].from, .to = ended};
+/* A second passes. A flush whose moment comes then is to be as if made before all commands of that moment. */
+static void wait_a_second(void) {
+    clock_now++;
+    calls[call_count++] = (call){.is = {.kind = FLUSH}, .from = events, .to = events};
+    events++;
 }
 
 static void run_order(void) {
@@ -328,12 +327,10 @@ static void run_order(void) {
     call_count = events = choice_count = 0;
     take_new_keys();
     make_all(CLIENTS, trial_now->before);
-    int first = call_count;
-    if (trial_now->waits) clock_now++;
+    if (trial_now->waits) wait_a_second();
     for (int i = 0; i < CLIENTS; i++) start_client(i);
     while ((running = choose()) >= 0) swapcontext(&chooser, &runners[running].at);
     for (int i = 0; i < CLIENTS; i++) expect(runners[i].is_done, "no two clients wait for each other");
-    if (trial_now->waits) note_flush_that_came(first);
     make_all(CLIENTS, trial_now->after);
     mark_those_beside_a_flush();
     if (has_order(0, nothing) && are_items_apart()) return;
@@ -356,19 +353,19 @@ static const trial trials[] = {
     {.what = "beside a flush_all, a client that stores a key and is answered hits no other key of before",
      .before = {{SET, 0, 1}}, .of = {{{.kind = FLUSH}}, {{SET, 1, 2}, {GET, 0, 0}}}, .after = {{GET, 0, 0}, {GET, 1, 0}}},
     {.what = "beside a flush_all, a number that grows comes of no flushed item and outlives the flush",
-     .before = {{SET, 0, 1}}, .of = {{{.kind = FLUSH}}, {{INCR, 0, 0}, {GET, 0, 0}}}, .after = {{GET, 0, 0}}},
+     .before = {{SET, 0, 1}}, .of = {{{.kind = FLUSH}}, {{INCR, 0, 0}}}, .after = {{GET, 0, 0}}},
     {.what = "what is stored after a flush_all is not lost by a command that began before it",
      .before = {{SET, 0, 1}}, .of = {{{.kind = FLUSH}, {SET, 0, 5}}, {{INCR, 0, 0}}}, .after = {{GET, 0, 0}}},
     {.what = "nor by one that stores the same key",
      .before = {{SET, 0, 1}}, .of = {{{.kind = FLUSH}, {SET, 0, 5}}, {{ADD, 0, 7}}}, .after = {{GET, 0, 0}}},
     {.what = "beside another flush_all, what was stored before one that was answered stays flushed",
-     .of = {{{SET, 0, 3}, {.kind = FLUSH}, {GET, 0, 0}}, {{.kind = FLUSH}}}, .after = {{GET, 0, 0}}},
+     .of = {{{SET, 0, 3}, {.kind = FLUSH}}, {{.kind = FLUSH}}}, .after = {{GET, 0, 0}}},
     {.what = "a flush_all whose moment has come is made once, before the commands of that moment",
-     .waits = true, .before = {{SET, 0, 1}, {.kind = LATER}}, .of = {{{GET, 0, 0}}, {{SET, 0, 5}}}, .after = {{GET, 0, 0}}},
+     .waits = true, .before = {{SET, 0, 1}, {.kind = LATER}}, .of = {{{INCR, 0, 0}}, {{SET, 0, 5}}}, .after = {{GET, 0, 0}}},
     {.what = "two clients that add to a number each count",
-     .before = {{SET, 0, 1}}, .of = {{{INCR, 0, 0}, {INCR, 0, 0}}, {{INCR, 0, 0}, {GET, 0, 0}}}, .after = {{GET, 0, 0}}},
+     .before = {{SET, 0, 1}}, .of = {{{INCR, 0, 0}, {INCR, 0, 0}}, {{INCR, 0, 0}}}, .after = {{GET, 0, 0}}},
     {.what = "of two clients that add a key one does",
-     .of = {{{ADD, 0, 1}, {GET, 0, 0}}, {{ADD, 0, 2}, {GET, 0, 0}}}, .after = {{GET, 0, 0}}},
+     .of = {{{ADD, 0, 1}}, {{ADD, 0, 2}}}, .after = {{GET, 0, 0}}},
 };
 
 /* ------------------------------------------------------------------------------------------------------------------ moments */

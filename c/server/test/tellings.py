@@ -77,11 +77,12 @@ def lost_in_their_place():
             client.ask(b"".join(asked), b"END\r\n" * 500)
         client.ask(b"verbosity 0\r\n", b"OK\r\n")
         text = take_lines(reads, LOST)
-        lines = text[: LOST.search(text).start()].splitlines()
-        asked = [int(number) for number in re.findall(rb"get k(\d+)x", b"".join(lines))]
-        equal(asked, list(range(len(asked))), "the gets that were told before the count of those that were not")
-        answers = [line[:1] for line in lines if b" get k" in line or line.endswith(b" END")]
-        expect(answers == [b"<", b">"] * (len(answers) // 2) + [b"<"] * (len(answers) % 2), "each get, and its answer after it")
+        said = [line.partition(b" ")[2] for line in text[: LOST.search(text).start()].splitlines()]
+        said = said[said.index(b"get ") :]
+        for at, line in enumerate(said):
+            wanted = (b"get ", b"k%dxxx" % (at // 4), b"", b"END")[at % 4]
+            expect(line.startswith(wanted) and (wanted or not line), f"line {at} before the count of those that were lost: {line}")
+        expect(len(said) > 1000, f"{len(said)} lines")
         equal(it.stop(), 0, "the status")
     finally:
         it.remove()
