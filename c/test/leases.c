@@ -2,8 +2,20 @@
 #include "test.h"
 #include <pthread.h>
 #include <stdatomic.h>
+#include <sys/random.h>
+#include <sys/syscall.h>
 
-enum { ROWS = 16, READERS = 3 };
+enum { ROWS = 16, READERS = 3, SEED_BYTES = 16 };
+
+/* While this is so each cache that is opened has the same seed, and only its number tells its leases from those of others. */
+static bool has_one_seed;
+
+ssize_t getrandom(void *to, size_t length, unsigned flags) {
+    static unsigned char drawn;
+    if (!has_one_seed) return (ssize_t)syscall(SYS_getrandom, to, length, flags);
+    memset(to, length == SEED_BYTES ? 1 : ++drawn, length);
+    return (ssize_t)length;
+}
 
 static bool is_none(const kangaroo_lease *lease) {
     static const kangaroo_lease none;
@@ -101,6 +113,19 @@ static void shows_whose_it_is(kangaroo_cache *cache, kangaroo_cache *other) {
     show("a lease of another key or cache, or made up, is stale");
 }
 
+static void shows_one_seed(const char *folder, const char *other_folder) {
+    has_one_seed = true;
+    kangaroo_cache *cache = open_small(folder), *other = open_small(other_folder);
+    has_one_seed = false;
+    kangaroo_lease lease = lease_of(cache, "mine"), copy = lease, others = lease_of(other, "mine");
+    expect_status(fill(other, &copy, "mine", "x"), KANGAROO_STALE, "a lease of another cache with the same seed");
+    expect_status(fill(other, &others, "mine", "x"), KANGAROO_OK, "its own lease");
+    expect_status(fill(cache, &lease, "mine", "x"), KANGAROO_OK, "the lease where it was given");
+    close_cache(cache);
+    close_cache(other);
+    show("a lease is of the cache that gave it, also where two caches place keys alike");
+}
+
 static void shows_drops(kangaroo_cache *cache) {
     kangaroo_counters before, after;
     kangaroo_lease lease = lease_of(cache, "dropped"), zeros = {{0}};
@@ -170,6 +195,7 @@ int main(void) {
     char folder[PATH_BYTES], other[PATH_BYTES];
     make_folder(folder);
     make_folder(other);
+    shows_one_seed(folder, other);
     kangaroo_cache *first = open_small(folder), *second = open_small(other);
     shows_a_fill(first);
     shows_what_ends_one(first);

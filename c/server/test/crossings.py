@@ -57,6 +57,10 @@ def halves_of_two():
         other.ask(b"set b 0 0 1\r\n2\r\nget a", b"STORED\r\n")
         one.ask(b" b\r\n\r\n\r\nget b a\r\n", b"STORED\r\nVALUE b 0 1\r\n2\r\nVALUE a 0 1\r\n1\r\nEND\r\n")
         other.ask(b" one\r\n", b"VALUE a 0 1\r\n1\r\nVALUE one 0 9\r\nget b\r\n\r\n\r\nEND\r\n")
+        one.ask(b"get " + b"a " * 2000 + b"a", b"VALUE a 0 1\r\n1\r\n" * 2000, "keys of a get that is longer than a line")
+        other.ask(b"mn\r\nset big 0 0 100000\r\n" + b"x" * 50_000, b"MN\r\nSERVER_ERROR object too large for cache\r\n")
+        one.ask(b"\r\nget b\r\n", b"VALUE a 0 1\r\n1\r\nEND\r\nVALUE b 0 1\r\n2\r\nEND\r\n", "beside a block that is passed over")
+        other.ask(b"x" * 50_000 + b"\r\nmn\r\n", b"MN\r\n")
 
 
 @shows("answers come in their order, however little of them the system takes at once, and whatever more a client asks meanwhile")
