@@ -1,5 +1,6 @@
 """Two starts on one socket, one folder, one pid file: the second harms nothing of the first, and an end removes only what is its own."""
 import contextlib
+import fcntl
 import os
 import pathlib
 import pwd
@@ -10,6 +11,7 @@ import stat
 import subprocess
 import tempfile
 import threading
+import time
 
 from harness import IS_QUICK, PATIENCE, PROGRAM, Client, Server, Skipped, equal, expect, free_port, shows, usual_words, wait_for
 
@@ -301,3 +303,20 @@ def daemons():
         finally:
             os.kill(pid, signal.SIGTERM)
         wait_for(lambda: not os.listdir(at), "it ends and removes its files")
+
+
+@shows("while another start has the folder of a Unix socket, one waits for it, though not for ever")
+def waits_for_another_start():
+    folder = tempfile.mkdtemp(prefix="kangarood-room-")
+    opened = os.open(folder, os.O_RDONLY | os.O_DIRECTORY)
+    fcntl.flock(opened, fcntl.LOCK_SH)
+    began = time.monotonic()
+    it = Server("-s", f"{folder}/socket", has_socket=False)
+    try:
+        expect(it.is_ready, it.said())
+        expect(time.monotonic() - began >= 0.2, f"it serves after {time.monotonic() - began:.2f} s, and did not wait for the other")
+        equal(it.stop(), 0, "the status")
+    finally:
+        it.remove()
+        os.close(opened)
+        shutil.rmtree(folder, ignore_errors=True)
