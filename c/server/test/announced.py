@@ -55,12 +55,35 @@ def is_length_refused(it):
 def is_too_long(it):
     """A value that is too long here, or in silence was."""
     stored = re.match(rb"VA (\d+) ", it.their_state)
-    return b"too large for cache" in it.ours and b"too large" not in it.theirs or it.command.is_quiet and stored and int(stored[1]) > 2030
+    is_long = stored and int(stored[1]) > 2030
+    return b"too large for cache" in it.ours and b"too large" not in it.theirs or is_long and it.our_state != it.their_state
+
+
+def is_long_number(it):
+    """A number with many zeros before it."""
+    return it.command.family in ("count", "ma") and re.search(rb"\r\n0\d{20,}\r\n\Z", it.our_state) is not None
+
+
+def is_no_number(it):
+    """Data that is no number here, and one with memcached; in silence only what the key then has shows it."""
+    if it.command.family not in ("count", "ma"):
+        return False
+    stored = re.search(rb"\r\n((?:[^\r]|\r(?!\n\Z))*)\r\n\Z", it.our_state)
+    return NO_NUMBER in it.ours and NO_NUMBER not in it.theirs or it.command.is_quiet and stored and not re.fullmatch(rb"\d+ *", stored[1])
+
+
+def is_lost_expiry(it):
+    """An ma with T, after which the items are the same but for the expiry and the marks, or this one has expired."""
+    if not re.match(rb"ma .* T", it.line) or is_error(it.ours) or is_error(it.theirs):
+        return False
+    theirs, ours = (re.sub(rb"(?m)^(VA[^\r]*?)( [WXZ])*\r", rb"\1\r", without_lifetime(state)) for state in (it.their_state, it.our_state))
+    return squeezed(theirs) == squeezed(ours) or re.search(rb" T-", it.line) and ours.startswith(b"EN")
 
 
 def is_refused_by_name(it):
     """A command or a flag that is never served."""
-    return it.line.startswith(b"me") or it.has_fault("flag") and re.search(rb" [bhl][ \r]", it.command.sent)
+    is_flag = it.has_fault("flag") and re.search(rb" [bhl][ \r]", it.command.sent)
+    return it.line.startswith(b"me") or is_flag or b" is not served" in it.ours
 
 
 def is_wrong_key(it):
@@ -86,9 +109,17 @@ ANNOUNCED = [
     ("mg and ma with an opaque token that is too long do nothing", lambda it: it.has_fault("O") and b"opaque token too long" in it.ours),
     ("the keys before a wrong one are answered", is_wrong_key),
     ("spaces after a number keep the length of the data", is_longer_number),
-    ("memcached takes other bytes beside a number's digits", lambda it: NO_NUMBER in it.ours and NO_NUMBER not in it.theirs),
+    ("data of more than 20 digits is no number", is_long_number),
+    ("memcached takes other bytes beside a number's digits", is_no_number),
     ("an item without data is compared before it is found to be no number",
      lambda it: it.our_answer.startswith(b"EX") and NO_NUMBER in it.theirs),
+    ("ma with q answers nothing of an item that it makes too", lambda it: it.line.startswith(b"ma") and it.command.is_quiet and b" N" in it.line
+     and it.our_answer == b"" and it.their_answer[:2] in (b"HD", b"VA")),
+    ("a line has at most 2,048 bytes", lambda it: b"CLIENT_ERROR line too long" in it.ours),
+    ("numbers of items begin at the wall clock", lambda it: re.search(rb" I", it.line) and re.search(rb" C\d", it.line)
+     and {it.their_answer[:2], it.our_answer[:2]} == {b"EX", b"HD"}),
+    ("memcached loses the T of an ma that makes a number longer", is_lost_expiry),
+    ("t of an item that has expired is 0", lambda it: re.sub(rb" t4294\d+", b" t0", it.their_answer) == it.our_answer != it.their_answer),
     ("t tells the expiry that a new item has",
      lambda it: b" N" in it.line and without_lifetime(it.theirs) == without_lifetime(it.ours)),
     ("the marks stale and won stay if a number gets longer",
@@ -101,5 +132,11 @@ ANNOUNCED = [
 
 
 def reason(it):
-    """The sentence that announces a difference, or None."""
-    return next((sentence for sentence, is_meant in ANNOUNCED if is_meant(it)), None)
+    """The sentence that announces a difference, or None. In a pipeline any of the commands may be what it speaks of."""
+    first = it.command
+    for it.command in it.commands:
+        for sentence, is_meant in ANNOUNCED:
+            if is_meant(it):
+                return sentence
+    it.command = first
+    return None

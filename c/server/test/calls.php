@@ -18,9 +18,9 @@ function stores($m) {
     tell($m->replace("b", "3") && !$m->replace("absent", "3"), "replace");
     tell($m->set("list", [1, "two", ["three" => 3.5]]) && $m->get("list") === [1, "two", ["three" => 3.5]], "an array");
     tell($m->set("flag", true) && $m->get("flag") === true && $m->set("n", 7) && $m->get("n") === 7, "a bool and a number");
-    tell($m->set("packed", str_repeat("abc", 5000)) && $m->get("packed") === str_repeat("abc", 5000), "15,000 bytes that are compressed");
-    tell($m->set("2000", str_repeat("x", 50) . random_bytes(1900)) && strlen($m->get("2000")) === 1950, "1,950 bytes");
-    tell($m->set("5000", random_bytes(5000)) && strlen($m->get("5000")) === 5000, "5,000 random bytes");
+    tell($m->set("packed", str_repeat("abc", 5000)) && $m->get("packed") === str_repeat("abc", 5000), "a text of 15,000 bytes that is compressed");
+    tell($m->set("2000", str_repeat("x", 50) . random_bytes(1900)) && strlen($m->get("2000")) === 1950, "a text of 1,950 bytes");
+    tell($m->set("5000", random_bytes(5000)) && strlen($m->get("5000")) === 5000, "a text of 5,000 random bytes");
     tell($m->set("", "x") === false && $m->set(str_repeat("k", 251), "x") === false, "keys that are none");
 }
 

@@ -136,10 +136,10 @@ class Maker:
         return self.choose(ODD_KEYS)
 
     def cas_number(self, key):
-        """A number of an item: the key's own, as a mark that is replaced as it is sent, one off it, or nobody's."""
+        """A number of an item: the key's own, as a mark that is replaced as it is sent, another one, or nobody's."""
         if self.is_so(0.2):
             return self.choose([b"0", b"4611686018427387904"])
-        return self.choose([b"\x01%s+0\x01", b"\x01%s+0\x01", b"\x01%s+1\x01", b"\x01%s-1\x01"]) % key
+        return self.choose([b"\x01%s+0\x01", b"\x01%s+0\x01", b"\x01%s+99999\x01", b"\x01%s-1\x01"]) % key
 
     def length(self, data):
         """A length that is odd, and its kind."""
