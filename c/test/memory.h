@@ -1,5 +1,4 @@
-/* memory.h: a malloc that counts, and refuses when it is told to. It stands in the test's own program, whose malloc the
- * library's calls take. */
+/* memory.h: a malloc that counts, and refuses when it is told to. */
 #ifndef KANGAROO_TEST_MEMORY_H
 #define KANGAROO_TEST_MEMORY_H
 
@@ -8,13 +7,6 @@
 #endif
 #include <errno.h>
 #include <stdatomic.h>
-#include <stddef.h>
-#include <stdlib.h>
-
-extern void *__libc_malloc(size_t bytes);
-extern void *__libc_calloc(size_t count, size_t bytes);
-extern void *__libc_realloc(void *block, size_t bytes);
-extern void *__libc_memalign(size_t alignment, size_t bytes);
 
 static atomic_long allocations, refuse_from = -1, refused_ones;
 
@@ -27,20 +19,6 @@ static int is_refused(void) {
     return 1;
 }
 
-void *malloc(size_t bytes) {
-    return is_refused() ? NULL : __libc_malloc(bytes);
-}
-
-void *calloc(size_t count, size_t bytes) {
-    return is_refused() ? NULL : __libc_calloc(count, bytes);
-}
-
-void *realloc(void *block, size_t bytes) {
-    return is_refused() ? NULL : __libc_realloc(block, bytes);
-}
-
-void *aligned_alloc(size_t alignment, size_t bytes) {
-    return is_refused() ? NULL : __libc_memalign(alignment, bytes);
-}
+#include "refusing.h"
 
 #endif

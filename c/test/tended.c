@@ -7,11 +7,6 @@
 #include <pthread.h>
 #include <stdatomic.h>
 
-extern void *__libc_malloc(size_t bytes);
-extern void *__libc_calloc(size_t count, size_t bytes);
-extern void *__libc_realloc(void *block, size_t bytes);
-extern void *__libc_memalign(size_t alignment, size_t bytes);
-
 enum { SIZE = 200, LANES = 4, PATIENCE = 20000, TRIES = 16 };
 
 static _Thread_local bool is_main;
@@ -29,21 +24,7 @@ static bool is_refused(void) {
     return true;
 }
 
-void *malloc(size_t bytes) {
-    return is_refused() ? NULL : __libc_malloc(bytes);
-}
-
-void *calloc(size_t count, size_t bytes) {
-    return is_refused() ? NULL : __libc_calloc(count, bytes);
-}
-
-void *realloc(void *block, size_t bytes) {
-    return is_refused() ? NULL : __libc_realloc(block, bytes);
-}
-
-void *aligned_alloc(size_t alignment, size_t bytes) {
-    return is_refused() ? NULL : __libc_memalign(alignment, bytes);
-}
+#include "refusing.h"
 
 /* Only the library's thread tries a lane's lock. While it is stalled it waits here, without a lock. */
 int pthread_mutex_trylock(pthread_mutex_t *lock) {

@@ -70,9 +70,7 @@ def many_keys():
 @shows("clients over -c are told and closed; once one leaves, another is served")
 def too_many():
     with server("-c", "5") as it:
-        clients = [it.client() for _ in range(5)]
-        for client in clients:
-            client.ask(b"mn\r\n", b"MN\r\n")
+        clients = it.greeted(5)
         more = it.client()
         equal(more.take(100), b"ERROR Too many open connections\r\n", "the sixth is told")
         expect(more.is_closed(), "and closed")
@@ -92,9 +90,7 @@ def switches(it):
 @shows("clients that come after others left get the workers that have fewer")
 def dealt_out():
     with server("-t", "2") as it:
-        clients = [it.client() for _ in range(8)]
-        for client in clients:
-            client.ask(b"mn\r\n", b"MN\r\n")
+        clients = it.greeted(8)
         for client in clients[1::2]:  # one worker's
             client.close()
         wait_for(lambda: clients[0].stats()["curr_connections"] == "4", "four have left")

@@ -31,9 +31,7 @@ def asked(client):
 @shows("stats conns shows each of 300 clients once, by its descriptor, also many times in one go and with other commands between")
 def each_once():
     with server() as it:
-        clients = [it.client() for _ in range(300)]
-        for client in clients:
-            client.ask(b"mn\r\n", b"MN\r\n")
+        clients = it.greeted(300)
         first = asked(clients[0])
         equal(len(first), 301, "one listens and 300 are clients")
         equal(first[1:], sorted(set(first[1:])), "clients, in the order of their descriptors")
@@ -117,9 +115,7 @@ def many_askers():
     count = most_clients(ASKERS)
     with server("-c", str(count + 10)) as it:
         it.client().ask(b"set v 0 0 1\r\nv\r\n", b"STORED\r\n")
-        clients = [it.client() for _ in range(count)]
-        for client in clients:
-            client.ask(b"mn\r\n", b"MN\r\n")
+        clients = it.greeted(count)
         before = it.kib()
         for client in clients:
             client.send(b"stats conns\r\n")
@@ -138,9 +134,7 @@ def fast_asker():
     count = most_clients(1000)
     with server("-t", "1", "-c", str(count + 10)) as it:
         it.client().ask(b"set v 0 0 1\r\nv\r\n", b"STORED\r\n")
-        clients = [it.client() for _ in range(count)]
-        for client in clients:
-            client.ask(b"mn\r\n", b"MN\r\n")
+        clients = it.greeted(count)
         stops = threading.Event()
 
         def read(request):

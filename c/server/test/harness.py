@@ -198,6 +198,13 @@ class Server:
         """A new client on its socket."""
         return Client(self.path)
 
+    def greeted(self, number):
+        """So many new clients, each of which was answered, so the server has them all."""
+        clients = [self.client() for _ in range(number)]
+        for client in clients:
+            client.ask(b"mn\r\n", b"MN\r\n")
+        return clients
+
     def said(self):
         """What it told so far."""
         return pathlib.Path(f"{self.folder}/errors").read_text(encoding="utf-8", errors="replace")

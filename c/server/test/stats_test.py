@@ -154,9 +154,7 @@ def structures():
 @shows("stats conns has the address and the state of each socket: who listens, waits, has sent half a request, and asks")
 def of_conns():
     with server() as it:
-        clients = [it.client() for _ in range(20)]
-        for client in clients:
-            client.ask(b"mn\r\n", b"MN\r\n")
+        clients = it.greeted(20)
         clients[1].send(b"set half 0 0 10\r\n123")
         time.sleep(0.1)
         lines = clients[0].stats(b"conns")
