@@ -7,7 +7,7 @@
 #        scale     the same load over 1, 16 and 64 GiB of sparse files, from an empty cache: needs an idle machine, and 5 GiB of memory
 #        server    one stream to a cache, and then to kangarood and to memcached with and without extstore, which must be installed, by
 #                  measure_server.py beside, which prints a table: needs an idle machine and python3
-#        plots     draws five pictures from what the other parts left in OUT
+#        plots     draws six pictures from what the other parts left in OUT
 # FOLDER has room for files of up to 1 GiB (scale: of a disk, 8 GiB), in which another user may write; the programs are those of
 # `make -C c kangaroo-bench server`.
 set -e
@@ -86,11 +86,12 @@ plots() {
     cd "$out"
     draw hit-ratio-over-time hit-ratio-over-time.svg over-time.csv
     draw hit-ratio-by-memory hit-ratio-by-memory.svg memory-*.json rivals-*M.json
-    draw write-amplification write-amplification.svg threshold-*.json admit-*.json memory-24M.json
+    draw write-amplification write-amplification.svg threshold-*.json admit-*.json memory-24M.json rivals-24M.json
     draw latency latency.svg "one thread"=in-memory-zipf-1.json "two threads"=in-memory-zipf-2.json "four threads"=in-memory-zipf-4.json
-    draw throughput throughput.svg "drawn alike"=in-memory-uniform-1.json "drawn alike"=in-memory-uniform-2.json \
-        "drawn alike"=in-memory-uniform-4.json "by Zipf (0.9)"=in-memory-zipf-1.json "by Zipf (0.9)"=in-memory-zipf-2.json \
-        "by Zipf (0.9)"=in-memory-zipf-4.json
+    draw gets-by-threads gets-by-threads.svg uniform=in-memory-uniform-1.json uniform=in-memory-uniform-2.json \
+        uniform=in-memory-uniform-4.json "Zipf 0.9"=in-memory-zipf-1.json "Zipf 0.9"=in-memory-zipf-2.json \
+        "Zipf 0.9"=in-memory-zipf-4.json
+    [ ! -f server-bars.csv ] || draw server-bars server-bars.svg server-bars.csv
 }
 
 case $part in

@@ -3,7 +3,7 @@
 a table is printed.
 
 PART    beside   kangarood, memcached with extstore, and memcached, at 64 MiB of memory and 1 GiB of flash: 1 and 4 connections with 1
-                 and 16 requests in flight. The three in turn, each twice; some 5 minutes
+                 and 16 requests in flight. The three in turn, each five times; some 12 minutes. plot.py draws the table server-bars.csv
         hits     the same three and the same stream, after 40 million calls: it needs no idle machine; some 5 minutes
         dips     one request at a time on four connections, in short runs after loads of puts: kangarood with and without a thread for
                  upkeep, and memcached, in turn; some 3 minutes
@@ -14,6 +14,7 @@ FOLDER  has room for 2 GiB, and any user can reach it. It is on a device for `wa
 The programs are those of `make -C c kangaroo-bench server`, and memcached on the PATH. Figures need an idle machine with four processors."""
 import collections
 import contextlib
+import csv
 import json
 import os
 import shutil
@@ -170,20 +171,32 @@ def head(*cells):
 def beside():
     """The three servers, each fresh, and kept from load to load."""
     runs = collections.defaultdict(list)
-    for again in (1, 2):
+    for again in range(1, 6):
         for name in THREE:
             with servers({name: SOME[name]}) as it:
                 for seed, (connections, flight) in enumerate(LOADS, 1):
                     more = ("--warmup", "10M", "--operations", "4M") if seed == 1 else ("--keep", "--seed", str(seed), "--seconds", "6")
                     ran = it[name].run(f"{connections}-{flight}-{again}", connections, flight, *STREAM, *more)
                     runs[name, connections, flight].append(ran)
-    head("connections, in flight", "", "hits", "gets a second", "requests a second", "p50, us", "p99, us", "processor, us a request")
+    head("connections, in flight", "", "hits", "gets a second", "requests a second", "p50, us", "p99, us", "CPU, us a request")
+    write_bars(runs)
     for connections, flight in LOADS:
         for name in THREE:
             of = runs[name, connections, flight]
             row(f"{connections}, {flight}", name, span([it.hits for it in of], 3), span([it.rates[0] for it in of]),
                 span([it.rates[1] for it in of]), span([it.p50 for it in of], 1), span([it.p99 for it in of]),
                 span([it.processor for it in of], 2))
+
+
+def write_bars(runs):
+    """Writes the table of which plot.py draws bars."""
+    with open(f"{FILE['out']}/server-bars.csv", "w", newline="", encoding="utf-8") as file:
+        table = csv.writer(file, lineterminator="\n")
+        ends = ("lowest", "highest")
+        table.writerow(["connections", "in_flight", "server", *(f"{it}_{end}" for it in ("hit_ratio", "gets_per_second", "p99_us") for end in ends)])
+        for (name, connections, flight), of in sorted(runs.items(), key=lambda it: (LOADS.index(it[0][1:]), THREE.index(it[0][0]))):
+            values = [[it.hits for it in of], [it.rates[0] for it in of], [it.p99 for it in of]]
+            table.writerow([connections, flight, name, *(f"{end(it):.6g}" for it in values for end in (min, max))])
 
 
 def hits():

@@ -1,17 +1,20 @@
 #!/usr/bin/env python3
-"""Draws what kangaroo-bench and rivals measured, as an SVG (or a PNG, by the name's end). It needs matplotlib.
+"""Draws what kangaroo-bench, rivals and measure_server.py measured, as an SVG (or a PNG, by the name's end). It needs matplotlib.
 
 usage: plot.py KIND OUT.svg FILE..       FILE may be LABEL=FILE; without a label it is the file's name
 
 KIND                   FILE..
 hit-ratio-over-time    series: kangaroo-bench --series. By tier if there is one file
 hit-ratio-by-memory    reports: kangaroo-bench --json, rivals --json. At fixed flash: a line for each design
-write-amplification    reports, at several thresholds and admissions: bytes written to flash against hit ratio
+write-amplification    reports, at several thresholds and admissions, or a table of points (design, setting, written, hit_ratio):
+                       bytes written to flash against hit ratio
 latency                reports: gets and puts by percentile
-throughput             reports at several --threads: operations a second; a line for each label
+gets-by-threads        reports at several --threads, or a table (keys, threads, gets_per_second): a line for each label
+server-bars            a table (connections, in_flight, server, and the lowest and highest of hit_ratio, gets_per_second and p99_us):
+                       bars for each server, with their spread
 
-Figures are those after the warm-up. Reports of one label, or without labels all, are one line. Status 2: bad words or files;
-3: matplotlib is not there.
+A table is a CSV file, as docs/benchmarks has them. Figures are those after the warm-up. Reports of one label, or without labels
+all, are one line. Status 2: bad words or files; 3: matplotlib is not there.
 """
 import csv
 import json
@@ -92,6 +95,31 @@ def read_series(words):
     return series
 
 
+def read_table(words, columns):
+    """Rows of CSV files that have these columns; a cell is a number if it can be one."""
+    rows = []
+    for word in words:
+        try:
+            with open(word, newline="") as file:
+                rows += [{name: number_or_text(row[name]) for name in columns} for row in csv.DictReader(file)]
+        except OSError as cause:
+            refuse(STATUS_BAD_WORDS, f"{word}: {cause.strerror}")
+        except (KeyError, TypeError):
+            refuse(STATUS_BAD_WORDS, f"{word} lacks a column: it needs {', '.join(columns)}")
+    return rows
+
+
+def number_or_text(text):
+    try:
+        return float(text)
+    except ValueError:
+        return text
+
+
+def are_tables(words):
+    return all(word.endswith(".csv") for word in words)
+
+
 def of_cache(reports, kind):
     """Reports that have options of a cache: those of a server say nothing of flash and memory."""
     kept = [report for report in reports if "options" in report]
@@ -138,7 +166,7 @@ def new_plot(title, across, up, below=None):
 
 def save(figure, path):
     try:
-        figure.savefig(path, dpi=110, metadata={"Date": None} if path.endswith(".svg") else None)
+        figure.savefig(path, dpi=110, bbox_inches="tight", metadata={"Date": None} if path.endswith(".svg") else None)
     except (OSError, ValueError) as cause:
         refuse(STATUS_BAD_WORDS, f"{path}: {cause}")
 
@@ -182,26 +210,38 @@ def draw_hit_ratio_by_memory(words):
     return figure
 
 
-def draw_write_amplification(words):
+def setting_of(report):
+    """How a report of this cache differs from the others: threshold and admission."""
+    threshold, admitted = report["options"].get("threshold"), report["options"].get("admit_percent", 100)
+    if not threshold:
+        return ""
+    return f"threshold {threshold}" + (f", admitting {admitted:.3g} %" if admitted != 100 else "")
+
+
+def points_of_writing(words):
+    """Design, setting, bytes written for each byte stored, and hit ratio of each point; and a line about the load."""
+    if are_tables(words):
+        rows = read_table(words, ("design", "setting", "written", "hit_ratio"))
+        return [tuple(row.values()) for row in rows], None
     reports = of_cache(read_reports(words), "write-amplification")
-    figure, axes = new_plot("Bytes written to flash by hit ratio", "bytes written to flash for each byte stored", "hit ratio after the warm-up",
-                            of_load(reports[0]))
+    points = [(design_label(it), setting_of(it), it["measured"]["write_amplification"], it["measured"]["hit_ratio"]) for it in reports]
+    return points, of_load(reports[0])
 
-    def line_of(report):
-        threshold = report["options"].get("threshold")
-        return design_label(report) + (f", threshold {threshold}" if threshold else "")
 
-    for (label, group), colour, mark in zip(sorted(grouped(reports, line_of).items()), COLOURS * 9, MARKS * 9):
-        points = sorted((report["measured"]["write_amplification"], report["measured"]["hit_ratio"]) for report in group)
-        admitted = [f"{percent:.3g}" for percent in sorted({report["options"]["admit_percent"] for report in group})]
-        label += f", admitting {admitted[0]}" + (f" to {admitted[-1]} %" if len(admitted) > 1 else " %")
-        axes.plot(*zip(*points), color=colour, marker=mark, label=label)
-    axes.set_xscale("log")
-    axes.xaxis.set_major_locator(ticker.LogLocator(subs=(1, 2, 5)))
-    axes.xaxis.set_major_formatter(ticker.FormatStrFormatter("%g"))
-    axes.xaxis.set_minor_locator(ticker.NullLocator())
-    axes.margins(x=0.08, y=0.1)
-    axes.legend(loc="upper center", bbox_to_anchor=(0.5, -0.13), ncols=2, fontsize=8)
+def draw_write_amplification(words):
+    points, load = points_of_writing(words)
+    figure, axes = new_plot("Bytes written to flash by hit ratio", "bytes written to flash for each byte stored", "hit ratio after the warm-up", load)
+    for (label, group), colour, mark in zip(grouped(points, lambda it: it[0]).items(), COLOURS * 9, MARKS * 9):
+        across, up = [it[2] for it in group], [it[3] for it in group]
+        axes.scatter(across, up, color=colour, marker=mark, s=45, label=label, zorder=3)
+        for _, setting, written, hits in group:
+            # to the right of its point, or above it if another point is there
+            is_taken = any(0 < it[2] - written < 5 and abs(it[3] - hits) < 0.003 for it in group)
+            offset, where = ((0, 9), "center") if is_taken else ((8, -3), "left")
+            axes.annotate(setting, (written, hits), xytext=offset, textcoords="offset points", fontsize=8, ha=where)
+    axes.set_xlim(left=0)
+    axes.margins(x=0.08, y=0.15)
+    axes.legend(loc="upper right")
     return figure
 
 
@@ -231,26 +271,62 @@ def draw_latency(words):
     return figure
 
 
-def draw_throughput(words):
+def points_of_threads(words):
+    """The points of each line, as threads and gets per second; and a line about the load."""
+    lines = {}
+    if are_tables(words):
+        for row in read_table(words, ("keys", "threads", "gets_per_second")):
+            lines.setdefault(row["keys"], []).append((row["threads"], row["gets_per_second"]))
+        return lines, None
     reports = [report for report in read_reports(words) if report["design"] == "kangaroo"]
     if not reports:
-        refuse(STATUS_BAD_WORDS, "throughput wants reports of kangaroo-bench: rivals measures no time")
-    figure, axes = new_plot("Operations a second by threads", "threads that call", "millions of operations a second", of_load(reports[0]))
+        refuse(STATUS_BAD_WORDS, "gets-by-threads wants reports of kangaroo-bench: rivals measures no time")
+    for it in reports:
+        label = it["label"] or ("this cache" if it["target"] == "cache" else f"server, {it['pipeline']} in flight")
+        lines.setdefault(label, []).append((it["load"]["threads"], it["measured"]["operations_per_second"]))
+    return lines, None if len(lines) > 1 else of_load(reports[0])
 
-    def line_of(report):
-        return report["label"] or ("this cache" if report["target"] == "cache" else f"server, {report['pipeline']} in flight")
 
-    for (label, group), colour, mark in zip(grouped(reports, line_of).items(), COLOURS * 9, MARKS * 9):
-        points = sorted((report["load"]["threads"], report["measured"]["operations_per_second"] / 1e6) for report in group)
-        axes.plot(*zip(*points), color=colour, marker=mark, label=label)
-    axes.set_xticks(sorted({report["load"]["threads"] for report in reports}))
+def draw_gets_by_threads(words):
+    lines, load = points_of_threads(words)
+    figure, axes = new_plot("Gets per second by threads", "threads that call", "millions of gets per second", load)
+    for (label, points), colour, mark in zip(lines.items(), COLOURS * 9, MARKS * 9):
+        axes.plot(*zip(*sorted((threads, gets / 1e6) for threads, gets in points)), color=colour, marker=mark, label=label)
+    axes.set_xticks(sorted({int(threads) for points in lines.values() for threads, _ in points}))
     axes.set_ylim(bottom=0)
     axes.legend(loc="best")
     return figure
 
 
+BARS = (("hit_ratio", "hit ratio", 1), ("gets_per_second", "thousands of gets per second", 1e3), ("p99_us", "p99, microseconds", 1))
+
+
+def draw_server_bars(words):
+    names = [f"{name}_{end}" for name, _, _ in BARS for end in ("lowest", "highest")]
+    rows = read_table(words, ("connections", "in_flight", "server", *names))
+    if not rows:
+        refuse(STATUS_BAD_WORDS, "server-bars wants a table with rows")
+    servers = grouped(rows, lambda it: it["server"])
+    figure, all_axes = pyplot.subplots(1, len(BARS), figsize=(11.4, 4.2), layout="constrained")
+    for axes, (name, text, unit) in zip(all_axes, BARS):
+        for place, ((server, group), colour) in enumerate(zip(servers.items(), COLOURS)):
+            lows, highs = [it[f"{name}_lowest"] / unit for it in group], [it[f"{name}_highest"] / unit for it in group]
+            middles = [(low + high) / 2 for low, high in zip(lows, highs)]
+            spread = [[middle - low for middle, low in zip(middles, lows)], [high - middle for middle, high in zip(middles, highs)]]
+            at = [group_at + (place - 1) * 0.27 for group_at in range(len(group))]
+            axes.bar(at, middles, 0.25, yerr=spread, capsize=3, color=colour, label=server, error_kw={"linewidth": 1.1})
+        loads = [f"{it['connections']:.0f}, {it['in_flight']:.0f}" for it in next(iter(servers.values()))]
+        axes.set_xticks(range(len(loads)), loads)
+        axes.set_title(text, fontsize=11, loc="left")
+        axes.set_xlabel("connections, requests in flight on each")
+        axes.grid(axis="x", visible=False)
+    figure.legend(*all_axes[0].get_legend_handles_labels(), loc="lower center", ncols=3, bbox_to_anchor=(0.5, 1.0))
+    return figure
+
+
 KINDS = {"hit-ratio-over-time": draw_hit_ratio_over_time, "hit-ratio-by-memory": draw_hit_ratio_by_memory,
-         "write-amplification": draw_write_amplification, "latency": draw_latency, "throughput": draw_throughput}
+         "write-amplification": draw_write_amplification, "latency": draw_latency, "gets-by-threads": draw_gets_by_threads,
+         "server-bars": draw_server_bars}
 
 
 def main():
