@@ -59,7 +59,7 @@
  * Processes. One cache has a folder at a time, by a lock on a file in it. The cache does not know of other processes
  *   that write to the same database: give values an expiry, or tell this process of each write.
  * Storage that fails. Files are mapped into memory. A disk error at a read of a mapped page is the signal SIGBUS, not a
- *   status. A page that the system could not bring to the disk may come back old: then the premise above is broken, and
+ *   status. A page that the kernel could not write to the disk may come back old: then the premise above is broken, and
  *   the promise with it. Space for the files is reserved at open, so a full disk cannot strike later. With
  *   KANGAROO_SPARSE it can, as SIGBUS. A file that somebody cuts while its cache is open is a SIGBUS too.
  * Platforms. Version 1.0 runs on Linux from 4.14 on, x86-64. Nothing in this header depends on byte order or on the
@@ -127,7 +127,7 @@ typedef enum kangaroo_status {
     KANGAROO_NO_MEMORY = -4,      /* memory was refused */
     KANGAROO_WRONG_OPTIONS = -5,  /* an option is out of its range; kangaroo_options_resolve names it */
     KANGAROO_IN_USE = -6,         /* another cache has this folder */
-    KANGAROO_SYSTEM = -7,         /* the system refused something; kangaroo_open gives its errno */
+    KANGAROO_SYSTEM = -7,         /* the kernel refused something; kangaroo_open gives its errno */
     KANGAROO_FORKED = -8,         /* the cache was opened by another process than this one */
 
     /* never returned: they make the type 32 bits wide and signed under every compiler */
@@ -135,7 +135,7 @@ typedef enum kangaroo_status {
     KANGAROO_STATUS_HIGHEST_ = 0x7fffffff
 } kangaroo_status;
 
-/* Where a value was found. One that an object brought back into memory gave is told as of a set: like that, it is right if
+/* Where a value was found. If a copy in memory gave it, the tier is that of a set: like a hit in a set, it is right if
  * the file gives back what was written. */
 enum { KANGAROO_TIER_NONE = 0, KANGAROO_TIER_MEMORY = 1, KANGAROO_TIER_LOG = 2, KANGAROO_TIER_SET = 3 };
 
@@ -181,8 +181,8 @@ typedef struct kangaroo_options {
     uint32_t segment_pages;  /* 1 to 64: pages of a segment */
     uint32_t log_objects;    /* 1 to 1,048,576: objects of a lane that its log can hold */
 
-    /* One of so many hits on flash has its object brought back into memory. Of four objects in memory three are such
-     * copies: default 8; 1: each hit; 0: none comes back, and all of memory is for what is new. */
+    /* Copy one in so many hits on flash back into memory: default 8; 1: each hit; 0: never, and all of memory is for what
+     * is new. Three in four objects in memory are such copies. */
     uint32_t bring_back;
 } kangaroo_options;
 
@@ -193,7 +193,7 @@ typedef struct kangaroo_options {
 typedef struct kangaroo_sizes {
     uint64_t file_bytes;     /* lengths of all lanes' files together, exact */
     uint64_t files;          /* files in the folder: one for each lane, and kangaroo.lock */
-    uint64_t memory_fixed;   /* bytes of memory from open on, without the system's copies of file pages */
+    uint64_t memory_fixed;   /* bytes of memory from open on, without the kernel's copies of file pages */
     uint64_t memory_full;    /* bytes of memory once the memory tier is full of typical objects */
     uint64_t memory_objects; /* typical objects that fit in memory */
     uint64_t log_objects;    /* in the logs */
