@@ -214,6 +214,20 @@ def expiries():
             client.ask(b"ms k 1 F7 T" + word + b"\r\nx\r\nget k\r\n", b"HD\r\n" + found, word)
 
 
+# Flags beyond 32 bits, and what of them is kept.
+FLAGS = [(b"7", b"7"), (b"4294967295", b"4294967295"), (b"4294967296", b"0"), (b"4294967297", b"1"), (b"18446744073709551615", b"4294967295")]
+
+
+@shows("flags of any width keep their lower 32 bits, by set and by ms")
+def flags():
+    with server() as it:
+        client = it.client()
+        for word, kept in FLAGS:
+            found = b"VALUE k " + kept + b" 1\r\nx\r\nEND\r\n"
+            client.ask(b"set k " + word + b" 0 1\r\nx\r\nget k\r\n", b"STORED\r\n" + found, word)
+            client.ask(b"ms k 1 F" + word + b"\r\nx\r\nget k\r\n", b"HD\r\n" + found, word)
+
+
 @shows("bytes of the binary protocol end the connection")
 def binary():
     with server() as it:

@@ -11,7 +11,7 @@ pub const MIN_FLASH_BYTES: u64 = 3 * PAGE_BYTES;
 /// The most bytes of an object, a key and a value.
 pub const MAX_OBJECT_BYTES: u32 = (Key::MAX_LEN + Value::MAX_LEN) as u32;
 
-/// The most threads: with four lanes for each they have all the lanes that there may be.
+/// The most threads, a quarter of the most lanes. A thread is given sixteen lanes while there are that many.
 pub const MAX_THREADS: u32 = MAX_ALL_LANES / 4;
 
 /// The most shards: they have some 4 TiB of flash.

@@ -72,10 +72,10 @@ mode_by letter =
     else (if letter == 80 then modes.Prepend
     else (if letter == 82 then modes.Replace else modes.Set)))
 
--- F: a number of 32 bits that the client keeps with the value, 0 if it gives none
+-- F: the lower 32 bits of its number, which the client keeps with the value, 0 if it gives none
 abbrev pub client_flags : Option ℕ → ℕ
 client_flags None = 0
-client_flags (Some number) = if nat_lt number (2 ^ 32) then number else 0
+client_flags (Some number) = number % 2 ^ 32
 
 -- ms: how it stores
 abbrev pub meta_set_in : List ℕ → MetaSet

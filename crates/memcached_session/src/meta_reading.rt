@@ -11,6 +11,9 @@ use item_lane::{
 };
 use memcached_text::{Exptime, MetaRequest};
 
+/// One more than the largest number that a client can keep with a value: 32 bits.
+const FLAGS_END: u64 = 0x1_0000_0000;
+
 /// Whether the line has a flag with a letter.
 pub(crate) fn has_flag(request: &MetaRequest<'_>, letter: u8) -> bool
     ensures { result ≡ has_flag letter request.now.flags.now }
@@ -129,13 +132,12 @@ pub(crate) fn meta_set_in(request: &MetaRequest<'_>) -> MetaSet
     }
 }
 
-// The number that the client keeps with the value.
+// The number that the client keeps with the value: the lower 32 bits of what it gives.
 fn client_flags(number: Option<u64>) -> u32
     ensures { result ≡ client_flags number }
 {
     match number {
-        Some(number) if number < 1 << 32 => number as u32,
-        Some(_) => 0,
+        Some(number) => (number % FLAGS_END) as u32,
         None => 0,
     }
 }
