@@ -1,5 +1,5 @@
 -- What the flags of a meta command ask of the lane of its key, in the words of memcached's doc/protocol.txt.
-use Rattle.std.specs.Prelude.{ℕ, ◌^◌, Bool, false, true, List, nat_lt, ◌==◌, if◌then◌else◌, Option, Some, None, is_some, unwrap_or, slice_index_or}
+use Rattle.std.specs.Prelude.{ℕ, ◌%◌, ◌^◌, Bool, false, true, List, ◌==◌, if◌then◌else◌, Option, Some, None, is_some, unwrap_or, slice_index_or}
 use Rattle.memcached_text.specs.declared.exptime.Exptime.{Exptime}
 use Rattle.memcached_text.specs.declared.exptime.Exptime.TheVariants as exptimes
 use Rattle.memcached_text.specs.Meta.{token_at, number_at, exptime_at, is_before}
