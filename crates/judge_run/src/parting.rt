@@ -1,5 +1,5 @@
 // Parting the calls of a piece by whether they are decided.
-ghost use Rattle.std.specs.Prelude.{◌≡◌, ◌++◌, [], IfOk, length, not};
+ghost use Rattle.std.specs.Prelude.{◌≡◌, ◌++◌, [], IfOk, length, not, true};
 ghost use Rattle.history_window.specs.Streams.{IsPartedIf};
 ghost use Rattle.judge_run.specs.Telling.{lines_at};
 
