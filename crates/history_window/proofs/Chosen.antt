@@ -1,10 +1,8 @@
 -- Calls at chosen positions of a history: they are acceptable if the history is and each hit of them reads one of them.
-use Rattle.std.proofs.Common.{◌≡◌, ◌≢◌, ℕ, ◌<◌, ◌≤◌, Some, List, length, subst, inl, inr}
+use Rattle.std.proofs.Common.{◌≢◌, ℕ, ◌<◌, ◌≤◌, List, length, inl, inr}
 use Rattle.std.specs.Prelude.{All, filter, slice_get}
 use Rattle.trace_file.specs.declared.call.Call.{Call}
-use Rattle.certificate_checker.specs.Acceptance.{IsAccepted}
 use Rattle.certificate_checker.specs.Orders.{in_order}
-use Rattle.certificate_checker.proofs.public_laws.Accepting.{found_at}
 use Rattle.certificate_checker.proofs.public_laws.Listing.{Member, all_member, filter_member, member_all, member_at, member_contained, member_filter, member_picked, pairs_filter, pairs_from, picked_member, place_of}
 use Rattle.history_window.specs.Standing.{Acceptable}
 use Rattle.history_window.proofs.Ahead.{Once, ahead_filter, filter_ahead, first_member}

@@ -1,24 +1,23 @@
 -- What is accepted once a stream is warmed was accepted after some deeds.
-use Rattle.std.proofs.Common.{◌≡◌, ◌≢◌, ℕ, ◌+◌, ◌-◌, ◌<◌, ◌≤◌, Bool, true, false, not, cond, Some, List, [], ◌∷◌, ◌++◌, length, refl, sym, ap, ◌∙◌, subst, arith, inl, inr}
+use Rattle.std.proofs.Common.{◌≡◌, ◌≢◌, ℕ, ◌-◌, ◌<◌, ◌≤◌, Bool, true, false, not, cond, Some, List, [], ◌∷◌, ◌++◌, length, refl, sym, ap, ◌∙◌, subst, arith, inl, inr}
 use Rattle.std.specs.Prelude.{All, AllPairs, filter, map, nat_le, slice_get}
 use Rattle.std.specs.List.{filter_map}
 use Rattle.std.proofs.lemmas.Bool.{cases_Bool, cases_lt, cases_order, le-leb, leb-true, not-true, not_from_false}
 use Rattle.std.proofs.lemmas.List.{length-append, map-append}
 use Rattle.std.proofs.lemmas.List.Elements.{filter_map-append}
-use Rattle.std.proofs.lemmas.Option.{same_Some, slice_get_within}
+use Rattle.std.proofs.lemmas.Option.{same_Some}
 use Rattle.trace_file.specs.declared.call.Call.{Call}
 use Rattle.certificate_checker.specs.Deeds.{Deed, deed_of}
 use Rattle.certificate_checker.specs.Latest.{IsLawful, IsWrite, Writes}
 use Rattle.certificate_checker.specs.Orders.{Precedes, in_order}
 use Rattle.certificate_checker.proofs.public_laws.Accepting.{found_at}
-use Rattle.certificate_checker.proofs.public_laws.Listing.{Member, Pairs, all_member, filter_member, member_all, member_at, member_contained, member_either, member_filter, member_left, member_map, member_picked, member_right, pairs_append, pairs_at, pairs_filter, pairs_from, pairs_map, pairs_picked, pairs_to, pairs_weaker, place_of}
+use Rattle.certificate_checker.proofs.public_laws.Listing.{Member, Pairs, all_member, filter_member, member_all, member_at, member_contained, member_either, member_filter, member_left, member_map, member_picked, member_right, pairs_append, pairs_at, pairs_filter, pairs_from, pairs_map, pairs_picked, pairs_to, pairs_weaker}
 use Rattle.certificate_finder.specs.WarmLaws.{IsAcceptedAfter, KeysAreWarmedOnce}
 use Rattle.certificate_finder.specs.Warming.{IsWarm, warm_put, warm_puts}
 use Rattle.history_window.specs.Laws.{ForgettingGoesOn, WarmingFollows}
-use Rattle.history_window.specs.Standing.{Acceptable, IsUnwritten, StandFor, StartFrom}
+use Rattle.history_window.specs.Standing.{Acceptable, IsUnwritten, StartFrom}
 use Rattle.history_window.specs.Streams.{AcceptedHavePast, ArePieces, ComesAfter, IsLastOf, Piece, added_in, bound_after, calls_in, decided_in, waiting_in, waiting_lines_in}
 use Rattle.history_window.proofs.Ahead.{Ahead, Once, ahead_filter, first_member, second_member}
-use Rattle.history_window.proofs.CallLemmas.{put_writes}
 use Rattle.history_window.proofs.Growing.{stands_now}
 use Rattle.history_window.proofs.Joining.{order_of}
 use Rattle.history_window.proofs.Judging.{IsAdded, added_puts, decided_whole, last_added, last_stands}

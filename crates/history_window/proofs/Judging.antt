@@ -1,27 +1,24 @@
 -- What is judged with the last piece of a stream stands for all calls that were read.
-use Rattle.std.proofs.Common.{◌≡◌, ◌≢◌, ℕ, ◌+◌, ◌<◌, ◌≤◌, Bool, true, false, Some, List, [], ◌∷◌, ◌++◌, length, refl, sym, ap, ◌∙◌, subst, arith, inl, inr, append-nil, append_assoc}
-use Rattle.std.specs.Prelude.{◌↔◌, All, map, slice_get}
+use Rattle.std.proofs.Common.{◌≡◌, ℕ, ◌+◌, ◌<◌, ◌≤◌, Bool, true, false, Some, List, [], ◌∷◌, ◌++◌, length, refl, sym, ap, ◌∙◌, subst, arith, inl, inr, append-nil, append_assoc}
+use Rattle.std.specs.Prelude.{◌↔◌, slice_get}
 use Rattle.std.specs.List.{filter_map}
 use Rattle.std.proofs.lemmas.Bool.{cases_lt}
 use Rattle.std.proofs.lemmas.List.{length-append}
-use Rattle.std.proofs.lemmas.List.Elements.{All-append}
 use Rattle.std.proofs.lemmas.Option.{slice_get_within}
-use Rattle.trace_file.specs.declared.act.Act.{Act}
-use Rattle.trace_file.specs.declared.act.Act.TheVariants.{Put, Hit}
+use Rattle.trace_file.specs.declared.act.Act.TheVariants.{Hit}
 use Rattle.trace_file.specs.declared.call.Call.{Call}
 use Rattle.certificate_checker.specs.Latest.{IsWrite}
-use Rattle.certificate_checker.specs.Orders.{Precedes, in_order}
+use Rattle.certificate_checker.specs.Orders.{Precedes}
 use Rattle.certificate_checker.proofs.public_laws.Accepting.{found_at}
-use Rattle.certificate_checker.proofs.public_laws.Listing.{Member, all_member, member_all, member_either, member_map, picked_member}
+use Rattle.certificate_checker.proofs.public_laws.Listing.{Member, all_member, member_either, member_map, picked_member}
 use Rattle.certificate_finder.specs.Warming.{warm_put}
 use Rattle.history_window.specs.Laws.{ForgettingGoesOn, WarmingFollows}
-use Rattle.history_window.specs.Standing.{Acceptable, StartFrom}
-use Rattle.history_window.specs.Streams.{ArePieces, ArePuts, ComesAfter, IsLastOf, MayCome, Piece, PiecesExclude, PiecesStand, added_in, bound_after, calls_in, decided_in, judged_in}
-use Rattle.history_window.proofs.Ahead.{Once}
+use Rattle.history_window.specs.Standing.{Acceptable}
+use Rattle.history_window.specs.Streams.{ArePieces, ArePuts, IsLastOf, MayCome, Piece, PiecesExclude, PiecesStand, added_in, bound_after, calls_in, decided_in, judged_in}
 use Rattle.history_window.proofs.CallLemmas.{no_write, put_writes}
 use Rattle.history_window.proofs.Chosen.{all_acceptable, chosen_acceptable}
 use Rattle.history_window.proofs.Keeping.{in_later}
-use Rattle.history_window.proofs.Lining.{AgreesLine, ReadsIn}
+use Rattle.history_window.proofs.Lining.{AgreesLine}
 use Rattle.history_window.proofs.Picking.{look_left}
 use Rattle.history_window.proofs.Pieces.{bound_grows, judged_stands, ready}
 use Rattle.history_window.proofs.Placing.{ArePlaced, none_placed, placed}
@@ -113,15 +110,15 @@ module _ (goes_on : ForgettingGoesOn) (warming : WarmingFollows) (length_of : �
     places : ArePlaced all puts unended (bound_after length_of (calls_in (last ∷ earlier))) (last ∷ earlier)
     places = last_placed all puts length_of warm unended last earlier are later refl [] (sym (append-nil puts))
 
-    long_all : length all ≡ length (calls_in (last ∷ earlier)) + length later
-    long_all = length-append (calls_in (last ∷ earlier)) later
+    all_long : length all ≡ length (calls_in (last ∷ earlier)) + length later
+    all_long = length-append (calls_in (last ∷ earlier)) later
 
     long_whole : length (all ++ puts) ≡ length all + length puts
     long_whole = length-append all puts
 
     within : (p : ℕ) → Member p places.done → p < length (all ++ puts)
     within p m =
-        let a = long_all in
+        let a = all_long in
         let w = long_whole in
         elim (places.done_only p m) [
           | inl less ↦ omega (arith, less, a, w)

@@ -23,16 +23,15 @@ use Rattle.certificate_finder.specs.Warming.{IsUnput, IsWarm, PutsAt, warm_put, 
 use Rattle.history_window.specs.Laws.{ForgettingGoesOn, WarmingFollows}
 use Rattle.history_window.specs.Standing.{Acceptable, MayFollow, StartFrom}
 use Rattle.history_window.specs.Streams.{ArePieces, ComesAfter, IsKeptAfter, IsLastOf, MayCome, PastsPass, Piece, added_in, bound_after, calls_in, decided_in, judged_in, waiting_in, waiting_lines_in}
-use Rattle.history_window.proofs.Ahead.{Once}
 use Rattle.history_window.proofs.CallLemmas.{put_writes, same_value}
 use Rattle.history_window.proofs.Firsts.{IsFirstBelow, find_first}
 use Rattle.history_window.proofs.Growing.{stands_now}
-use Rattle.history_window.proofs.Judging.{decided_read, last_stands, pieces_placed}
+use Rattle.history_window.proofs.Judging.{decided_read, last_stands}
 use Rattle.history_window.proofs.Keeping.{at_history, at_whole, in_later, look_right}
 use Rattle.history_window.proofs.Lining.{ReadsIn}
 use Rattle.history_window.proofs.Picking.{in_run, look_after, look_left, run, run_from}
 use Rattle.history_window.proofs.Pieces.{IsReady, asked_from, bound_grows, decided_asked, ready}
-use Rattle.history_window.proofs.Placing.{ArePlaced, AreParted, asked, asked_less, done_ways, in_done, old_apart, parts, placed}
+use Rattle.history_window.proofs.Placing.{ArePlaced, AreParted, asked, asked_less, done_ways, in_done, none_placed, old_apart, parts, placed}
 use Rattle.history_window.proofs.Reading.{Comes, IsTruly, begun, closed_acceptable, comes_of, joined, line, not_again, one_value, one_way, put_at, reads, unwritten}
 use Rattle.history_window.proofs.Warming.{none_unput}
 
@@ -96,10 +95,10 @@ module _ (past : List Deed) (all : List Call) (certificate : List ℕ) (new : Ar
   read_by = reads past all certificate new a
 
   -- this is known after pieces: the puts that were added are those of values of the past, one of a key, and each hit that is decided and reads a value of the past has its put
-  record IsPassed (unended : Bool) (bound : ℕ) (pieces : List Piece) (at : ArePlaced all puts unended bound pieces) : Type 0 where
-    truly : (put : Call) → Member put (added_in pieces) → Truly put
-    apart : AreApart (added_in pieces)
-    covers : (p : ℕ) (call : Call) (value : List ℕ) (moment : ℕ) → Member p at.done → slice_get all p ≡ Some call → call.act ≡ Hit value moment → (r : Reads p call value moment) → length all ≤ r.put → (put : Call) × Member put (added_in pieces) × (put.key ≡ call.key)
+  pub record IsPassed (unended : Bool) (bound : ℕ) (pieces : List Piece) (at : ArePlaced all puts unended bound pieces) : Type 0 where
+    pub truly : (put : Call) → Member put (added_in pieces) → Truly put
+    pub apart : AreApart (added_in pieces)
+    pub covers : (p : ℕ) (call : Call) (value : List ℕ) (moment : ℕ) → Member p at.done → slice_get all p ≡ Some call → call.act ≡ Hit value moment → (r : Reads p call value moment) → length all ≤ r.put → (put : Call) × Member put (added_in pieces) × (put.key ≡ call.key)
 
   none_passed : (bound : ℕ) (at : ArePlaced all puts true bound []) → IsPassed true bound [] at
   none_passed bound at = record {
@@ -617,13 +616,17 @@ module _ (past : List Deed) (all : List Call) (certificate : List ℕ) (new : Ar
           omega (arith, start, grows)
     ])
 
-    pieces_passed : (pieces : List Piece) (are : ArePieces length_of true pieces) (rest : List Call) (all_are : all ≡ calls_in pieces ++ rest) → StartFrom (bound_after length_of (calls_in pieces)) rest → (later_puts : List Call) (puts_are : puts ≡ added_in pieces ++ later_puts) → IsPassed true (bound_after length_of (calls_in pieces)) pieces (pieces_placed all puts length_of true pieces are rest all_are later_puts puts_are)
-    pieces_passed [] are rest all_are may later_puts puts_are = none_passed (bound_after length_of []) (pieces_placed all puts length_of true [] are rest all_are later_puts puts_are)
+    -- the places of the calls that are decided with pieces, and what is known of them
+    pieces_passed : (pieces : List Piece) → ArePieces length_of true pieces → (rest : List Call) → all ≡ calls_in pieces ++ rest → StartFrom (bound_after length_of (calls_in pieces)) rest → (later_puts : List Call) → puts ≡ added_in pieces ++ later_puts → (at : ArePlaced all puts true (bound_after length_of (calls_in pieces)) pieces) × IsPassed true (bound_after length_of (calls_in pieces)) pieces at
+    pieces_passed [] are rest all_are may later_puts puts_are =
+        let at = none_placed all puts (bound_after length_of []) in
+        (at, none_passed (bound_after length_of []) at)
     pieces_passed (piece ∷ earlier) are rest all_are may later_puts puts_are =
         let early = earlier_late piece earlier rest are.1.late may in
-        passed_now goes_on warming once length_of true piece earlier are.0 are.1 rest all_are may early later_puts puts_are
-        (pieces_placed all puts length_of true earlier are.0 (piece.calls ++ rest) (all_are ∙ append_assoc (calls_in earlier) piece.calls rest) (piece.puts ++ later_puts) (puts_are ∙ append_assoc (added_in earlier) piece.puts later_puts))
-        (pieces_passed earlier are.0 (piece.calls ++ rest) (all_are ∙ append_assoc (calls_in earlier) piece.calls rest) early (piece.puts ++ later_puts) (puts_are ∙ append_assoc (added_in earlier) piece.puts later_puts))
+        let old = pieces_passed earlier are.0 (piece.calls ++ rest) (all_are ∙ append_assoc (calls_in earlier) piece.calls rest) early (piece.puts ++ later_puts) (puts_are ∙ append_assoc (added_in earlier) piece.puts later_puts) in (
+          placed all puts length_of true true piece earlier are.1 (bound_after length_of (calls_in earlier)) old.0 (bound_grows length_of (calls_in earlier) piece.calls) rest all_are later_puts puts_are,
+          passed_now goes_on warming once length_of true piece earlier are.0 are.1 rest all_are may early later_puts puts_are old.0 old.1,
+        )
 
     last_late : (unended : Bool) (last : Piece) (earlier : List Piece) (rest : List Call) → StartFrom (bound_after length_of (calls_in earlier)) last.calls → MayCome unended (bound_after length_of (calls_in (last ∷ earlier))) rest → StartFrom (bound_after length_of (calls_in earlier)) (last.calls ++ rest)
     last_late true last earlier rest own may = earlier_late last earlier rest own may
@@ -632,14 +635,11 @@ module _ (past : List Deed) (all : List Call) (certificate : List ℕ) (new : Ar
     pub last_passed : (unended : Bool) (last : Piece) (earlier : List Piece) (are : IsLastOf length_of true unended last earlier) (rest : List Call) (all_are : all ≡ calls_in (last ∷ earlier) ++ rest) → MayCome unended (bound_after length_of (calls_in (last ∷ earlier))) rest → (later_puts : List Call) (puts_are : puts ≡ added_in (last ∷ earlier) ++ later_puts) → Acceptable (decided_in (last ∷ earlier))
     last_passed unended last earlier are rest all_are may later_puts puts_are =
         let early = last_late unended last earlier rest are.1.late may in
-        let early_are = all_are ∙ append_assoc (calls_in earlier) last.calls rest in
-        let early_puts = puts_are ∙ append_assoc (added_in earlier) last.puts later_puts in
-        let old = pieces_placed all puts length_of true earlier are.0 (last.calls ++ rest) early_are (last.puts ++ later_puts) early_puts in
-        let passed = pieces_passed earlier are.0 (last.calls ++ rest) early_are early (last.puts ++ later_puts) early_puts in
+        let old = pieces_passed earlier are.0 (last.calls ++ rest) (all_are ∙ append_assoc (calls_in earlier) last.calls rest) early (last.puts ++ later_puts) (puts_are ∙ append_assoc (added_in earlier) last.puts later_puts) in
         done_acceptable unended (bound_after length_of (calls_in (last ∷ earlier))) (last ∷ earlier)
-        (placed all puts length_of true unended last earlier are.1 (bound_after length_of (calls_in earlier)) old (bound_grows length_of (calls_in earlier) last.calls) rest all_are later_puts puts_are)
+        (placed all puts length_of true unended last earlier are.1 (bound_after length_of (calls_in earlier)) old.0 (bound_grows length_of (calls_in earlier) last.calls) rest all_are later_puts puts_are)
         rest all_are may later_puts puts_are
-        (passed_now goes_on warming once length_of unended last earlier are.0 are.1 rest all_are may early later_puts puts_are old passed)
+        (passed_now goes_on warming once length_of unended last earlier are.0 are.1 rest all_are may early later_puts puts_are old.0 old.1)
 
 pub pasts_pass : ForgettingGoesOn → WarmingFollows → KeysAreWarmedOnce → PastsPass
 pasts_pass goes_on warming once length_of unended last earlier later past certificate are may new a =

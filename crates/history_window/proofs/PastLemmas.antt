@@ -1,14 +1,13 @@
 -- Recent hits, and all other calls, call by call.
-use Rattle.std.proofs.Common.{◌≡◌, ℕ, ◌+◌, ◌<◌, ◌≤◌, ◌&&◌, Bool, true, false, not, Some, List, [], ◌++◌, length, refl, sym, ap, ◌∙◌, subst, arith, inl, inr, ◌⊎◌}
+use Rattle.std.proofs.Common.{◌≡◌, ℕ, ◌+◌, ◌<◌, ◌&&◌, Bool, true, false, not, Some, List, length, refl, sym, ap, ◌∙◌, arith, inl, inr, ◌⊎◌}
 use Rattle.std.specs.Prelude.{nat_le, slice_get}
 use Rattle.std.proofs.lemmas.Bool.{and_from, and_parts, cases_Bool, le-leb, leb-true, not-true, not_from_false}
 use Rattle.std.proofs.lemmas.Option.{same_Some}
-use Rattle.trace_file.specs.declared.act.Act.TheVariants.{Hit}
 use Rattle.trace_file.specs.declared.call.Call.{Call}
 use Rattle.certificate_checker.proofs.public_laws.Accepting.{found_at}
 use Rattle.certificate_finder.specs.Lists.{AreAllBelow, GrowsIf}
 use Rattle.history_window.specs.Acts.{is_reading}
-use Rattle.history_window.specs.Streams.{ArePast, IsRecent}
+use Rattle.history_window.specs.Streams.{IsRecent}
 use Rattle.history_window.proofs.ActLemmas.{all_below_if, reading_is}
 use Rattle.history_window.proofs.CallLemmas.{end_is}
 

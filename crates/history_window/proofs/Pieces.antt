@@ -1,16 +1,15 @@
 -- What is kept of the pieces of a stream stands for all that was decided.
-use Rattle.std.proofs.Common.{◌≡◌, ℕ, ◌≤◌, ◌-◌, ◌==◌, max, min, Bool, true, false, cond, List, [], ◌∷◌, ◌++◌, length, sym, ap, ◌∙◌, subst, arith, inl, inr, append-nil}
+use Rattle.std.proofs.Common.{◌≡◌, ℕ, ◌≤◌, ◌==◌, max, min, Bool, true, false, cond, List, [], ◌∷◌, ◌++◌, length, refl, sym, ap, ◌∙◌, subst, arith, inl, inr, append-nil}
 use Rattle.std.specs.Prelude.{◌↔◌, All, slice_get}
 use Rattle.std.proofs.lemmas.List.{length-append}
 use Rattle.std.proofs.lemmas.List.Sums.{fold-append}
 use Rattle.std.proofs.Math.Nat.{le-max_left}
 use Rattle.record_pages.specs.Expiry.{never}
 use Rattle.trace_file.specs.declared.call.Call.{Call}
-use Rattle.certificate_checker.specs.Orders.{in_order}
-use Rattle.certificate_checker.proofs.public_laws.Listing.{Member, all_member, member_all, member_at, member_either, member_left, member_picked, member_right}
+use Rattle.certificate_checker.proofs.public_laws.Listing.{Member, all_member, member_all, member_at, member_either, member_picked}
 use Rattle.history_window.specs.Laws.{ForgettingGoesOn, WarmingFollows}
 use Rattle.history_window.specs.Standing.{Acceptable, MayFollow, StandFor, StartFrom}
-use Rattle.history_window.specs.Streams.{ArePieces, ArePuts, ComesAfter, IsKept, IsKeptAfter, IsPartedIf, Piece, bound_after, calls_in, decided_in, earlier_start, first_start, judged_in, judged_lines, last_end, later_end, waiting_in, waiting_lines_in}
+use Rattle.history_window.specs.Streams.{ArePieces, ArePuts, ComesAfter, IsKept, IsKeptAfter, IsPartedIf, Piece, bound_after, calls_in, decided_in, first_start, judged_in, judged_lines, last_end, later_end, waiting_in, waiting_lines_in}
 use Rattle.history_window.proofs.Growing.{stands_now}
 
 -- ---- the last end only grows

@@ -1,21 +1,19 @@
 -- At which positions of all calls that were read, and of the puts that were added, the calls stand that are decided, and those that wait.
-use Rattle.std.proofs.Common.{◌≡◌, ◌≢◌, ℕ, ◌+◌, ◌<◌, ◌≤◌, Bool, true, false, Some, List, [], ◌∷◌, ◌++◌, length, refl, sym, ap, ◌∙◌, subst, arith, inl, inr, ◌⊎◌, append-nil, append_assoc}
+use Rattle.std.proofs.Common.{◌≡◌, ◌≢◌, ℕ, ◌+◌, ◌<◌, ◌≤◌, Bool, true, false, Some, List, [], ◌∷◌, ◌++◌, length, refl, sym, ap, ◌∙◌, subst, arith, inl, inr, ◌⊎◌}
 use Rattle.std.specs.Prelude.{slice_get}
 use Rattle.std.specs.List.{filter_map}
-use Rattle.std.proofs.lemmas.Bool.{cases_Bool, cases_lt}
+use Rattle.std.proofs.lemmas.Bool.{cases_lt}
 use Rattle.std.proofs.lemmas.List.{length-append}
 use Rattle.std.proofs.lemmas.List.Elements.{filter_map-append}
 use Rattle.std.proofs.lemmas.Option.{same_Some, slice_get_within}
-use Rattle.trace_file.specs.declared.act.Act.{Act}
-use Rattle.trace_file.specs.declared.act.Act.TheVariants.{Put, Hit}
+use Rattle.trace_file.specs.declared.act.Act.TheVariants.{Hit}
 use Rattle.trace_file.specs.declared.call.Call.{Call}
 use Rattle.certificate_checker.specs.Latest.{IsWrite}
 use Rattle.certificate_checker.specs.Orders.{in_order}
 use Rattle.certificate_checker.proofs.public_laws.Accepting.{found_at}
 use Rattle.certificate_checker.proofs.public_laws.Listing.{Member, all_member, member_at, member_contained, member_either, member_left, member_picked, member_right, pairs_append, pairs_from, pairs_weaker, picked_member, place_of}
 use Rattle.certificate_finder.specs.Lists.{AreAllBelow}
-use Rattle.history_window.specs.Acts.{is_reading}
-use Rattle.history_window.specs.Streams.{ArePast, ArePieces, AreRecent, ComesAfter, IsParted, IsPartedIf, IsRecent, Piece, added_in, bound_after, calls_in, decided_in, waiting_in, waiting_lines_in}
+use Rattle.history_window.specs.Streams.{ArePast, AreRecent, ComesAfter, IsPartedIf, IsRecent, Piece, added_in, bound_after, calls_in, decided_in, waiting_in, waiting_lines_in}
 use Rattle.history_window.proofs.Ahead.{Once}
 use Rattle.history_window.proofs.CallLemmas.{end_is, no_write}
 use Rattle.history_window.proofs.PastLemmas.{recent_or_not}
@@ -76,8 +74,8 @@ module _ (whole : List Call) (bound : ℕ) (asked : List ℕ) (calls : List Call
         let place = place_of asked p m in
         let less = index_less place.0 p place.2 in
         elim (recent_or_not bound calls place.0 less) [
-          | inl yes ↦ inr (picked_member (slice_get asked) recent place.0 p (member_contained recent place.0 (are_recent.all place.0 less yes)) place.2)
-          | inr no ↦ inl (picked_member (slice_get asked) past place.0 p (member_contained past place.0 (are_past.all place.0 less no)) place.2)
+          | inl is_one ↦ inr (picked_member (slice_get asked) recent place.0 p (member_contained recent place.0 (are_recent.all place.0 less is_one)) place.2)
+          | inr is_none ↦ inl (picked_member (slice_get asked) past place.0 p (member_contained past place.0 (are_past.all place.0 less is_none)) place.2)
         ]
 
     not_both : (p : ℕ) → Member p (picked past) → ¬ Member p (picked recent)
@@ -202,9 +200,6 @@ module _ (all more_puts : List Call) (length_of : ℕ) (warm unended : Bool) (pi
 
   long_added : length (added_in (piece ∷ earlier)) ≡ length (added_in earlier) + length piece.puts
   long_added = length-append (added_in earlier) piece.puts
-
-  long_puts : length more_puts ≡ length (added_in (piece ∷ earlier)) + length later_puts
-  long_puts = ap length puts_are ∙ length-append (added_in (piece ∷ earlier)) later_puts
 
   long_whole : length whole ≡ length all + length more_puts
   long_whole = length-append all more_puts

@@ -1,8 +1,8 @@
 -- What the hits of a history read that is accepted after some deeds.
 use Rattle.std.proofs.Common.{◌≡◌, ◌≢◌, ℕ, ◌+◌, ◌-◌, ◌<◌, ◌≤◌, Some, List, [], ◌∷◌, ◌++◌, length, refl, sym, ap, ◌∙◌, subst, arith, inl, inr, ◌⊎◌}
 use Rattle.std.specs.Prelude.{All, filter, IsTrue, eqb, map, nat_lt, slice_get}
-use Rattle.std.proofs.lemmas.Bool.{cases_eq, cases_lt, eq-eqb, or_right}
-use Rattle.std.proofs.lemmas.List.{length-append, length-map, map-append}
+use Rattle.std.proofs.lemmas.Bool.{cases_lt, eq-eqb, or_right}
+use Rattle.std.proofs.lemmas.List.{length-append, map-append}
 use Rattle.std.proofs.lemmas.List.Elements.{filter_map-append}
 use Rattle.std.proofs.lemmas.Option.{same_Some, slice_get_within}
 use Rattle.record_pages.specs.Expiry.{is_live, never}
@@ -11,16 +11,15 @@ use Rattle.trace_file.specs.declared.call.Call.{Call}
 use Rattle.certificate_checker.specs.Deeds.{Deed, deed_of}
 use Rattle.certificate_checker.specs.Latest.{IsLawful, Writes}
 use Rattle.certificate_checker.specs.Orders.{Precedes, in_order}
-use Rattle.certificate_checker.proofs.public_laws.Accepting.{found_at}
 use Rattle.certificate_checker.proofs.public_laws.Listing.{Member, all_member, contained_member, filter_member, member_all, member_at, member_contained, member_either, member_filter, member_left, member_map, member_picked, member_right, pairs_append, pairs_filter, pairs_from}
 use Rattle.certificate_finder.specs.WarmLaws.{AreNew, IsAcceptedAfter}
 use Rattle.certificate_finder.specs.Warming.{PutsAt}
 use Rattle.history_window.specs.Standing.{Acceptable}
-use Rattle.history_window.proofs.Ahead.{Ahead, Once, ahead_across, ahead_append, ahead_either, ahead_filter, ahead_left, ahead_right, ahead_strict, filter_ahead, first_member, second_member}
+use Rattle.history_window.proofs.Ahead.{Ahead, Once, ahead_across, ahead_append, ahead_either, ahead_filter, ahead_right, ahead_strict, filter_ahead, first_member, second_member}
 use Rattle.history_window.proofs.CallLemmas.{no_write, put_writes}
 use Rattle.history_window.proofs.Keeping.{at_history, at_whole, in_later, in_list, is_in, list_in, look_right}
 use Rattle.history_window.proofs.Lining.{AgreesLine, IsLawfulLine, ReadsIn, agrees_to, lawful_to}
-use Rattle.history_window.proofs.Picking.{IsLineOf, in_run, line_accepted, look_after, run, run_from, run_once, run_picks, same_picks}
+use Rattle.history_window.proofs.Picking.{in_run, line_accepted, look_after, run, run_from, run_once, run_picks, same_picks}
 
 -- a deed as a call before all others
 done_by : Deed → Call
@@ -41,7 +40,7 @@ module _ (past : List Deed) (all : List Call) (certificate : List ℕ) (new : Ar
   pub joined : List Call
   joined = all ++ deeds
 
-  front : List ℕ
+  pub front : List ℕ
   front = run (length all) (length deeds)
 
   pub line : List ℕ
@@ -104,7 +103,7 @@ module _ (past : List Deed) (all : List Call) (certificate : List ℕ) (new : Ar
       let high = below q (second_member certificate p q (in_certificate p q less ahead)) in
       omega (arith, from, high)
 
-  put_at : (p : ℕ) (call : Call) → p < length all → slice_get joined p ≡ Some call → slice_get all p ≡ Some call
+  pub put_at : (p : ℕ) (call : Call) → p < length all → slice_get joined p ≡ Some call → slice_get all p ≡ Some call
   unfolding joined
   put_at p call less at = at_history all deeds p call less at
 
