@@ -227,6 +227,33 @@ pub joined_many : (first more : List Call) (first_lines more_lines : List ℕ) (
 joined_many first more first_lines more_lines whole callers is one other =
     subst (λ (t : Text). length t.lines ≡ length t.calls) (sym is) (length-append first_lines more_lines ∙ ap₂ (λ m n. m + n) one other ∙ sym (length-append first more))
 
+-- no more than a number
+plus_none : (n : ℕ) → n + unwrap_or None 0 ≡ n
+plus_none n = arith
+
+-- the calls that wait are counted among those that are gone
+gone_with : (kind : CountedKind) (forgotten gone : Forgotten) (all told waiting : List Call) → IsGrown forgotten gone (counts_in waiting) (counts_in []) None → AreCounted forgotten all told → kinds.calls_of kind (all ++ waiting) ≡ kinds.calls_of kind told + streams.forgotten_of kind gone
+gone_with Put forgotten gone all told waiting grown are =
+    let a = count_both Put all waiting in
+    let c = are Put in
+    let g = grown.puts in
+    omega (arith, a, c, g)
+gone_with Removal forgotten gone all told waiting grown are =
+    let a = count_both Removal all waiting in
+    let c = are Removal in
+    let g = grown.removals in
+    omega (arith, a, c, g)
+gone_with Hit forgotten gone all told waiting grown are =
+    let a = count_both Hit all waiting in
+    let c = are Hit in
+    let g = grown.hits in
+    omega (arith, a, c, g)
+gone_with Miss forgotten gone all told waiting grown are =
+    let a = count_both Miss all waiting in
+    let c = are Miss in
+    let g = grown.misses in
+    omega (arith, a, c, g)
+
 -- ---- telling
 
 module _ (stand : PiecesStand) (exclude : PiecesExclude) (excludes : WitnessExcludes) (scope : Scope) (window : ℕ) (known left : Option (List ℕ)) (last : Piece) (earlier : List Piece) (calls : List Call) (calls_are : calls ≡ judged_in last) (found : Found) (is : IsFound calls found) where
@@ -241,8 +268,8 @@ module _ (stand : PiecesStand) (exclude : PiecesExclude) (excludes : WitnessExcl
   }
 
 -- what was judged is told
-pub streamed : PiecesStand → PiecesExclude → WitnessExcludes → (scope : Scope) (window least : ℕ) (over : Bool) (known left : Option (List ℕ)) (progress : Progress) (judged : Text) (waiting : List Call) (waiting_lines : List ℕ) (latest : ℕ) (forgotten : Forgotten) (from_start : Option ℕ) (found : Found) (skipped : Option ℕ) → IsFound judged.calls found → (over ≡ false → was_accepted found ≡ false) → IsJudgedLast scope window least (not over) known left progress judged waiting waiting_lines latest forgotten from_start → (over ≡ true → IfSome known (λ _. IsAtEnd left)) → IsCounted scope.reading.skip_bad progress.skipped skipped → IsStreamed scope window least known (was_accepted found) (was_decided found) judged (record { from_start = from_start; skipped = skipped; forgotten = Some forgotten })
-streamed stand exclude excludes scope window least over known left progress judged waiting waiting_lines latest forgotten from_start found skipped is unaccepted l ended counted = record {
+pub streamed : PiecesStand → PiecesExclude → WitnessExcludes → (scope : Scope) (window least : ℕ) (over : Bool) (known left : Option (List ℕ)) (progress : Progress) (judged : Text) (waiting : List Call) (waiting_lines : List ℕ) (latest : ℕ) (forgotten : Forgotten) (from_start : Option ℕ) (gone : Forgotten) (found : Found) (skipped : Option ℕ) → IsFound judged.calls found → (over ≡ false → was_accepted found ≡ false) → IsGrown forgotten gone (counts_in waiting) (counts_in []) None → IsJudgedLast scope window least (not over) known left progress judged waiting waiting_lines latest forgotten from_start → (over ≡ true → IfSome known (λ _. IsAtEnd left)) → IsCounted scope.reading.skip_bad progress.skipped skipped → IsStreamed scope window least known (was_accepted found) (was_decided found) judged (record { from_start = from_start; skipped = skipped; forgotten = Some gone })
+streamed stand exclude excludes scope window least over known left progress judged waiting waiting_lines latest forgotten from_start gone found skipped is unaccepted grown l ended counted = record {
   unended = not over;
   left = left;
   progress = progress;
@@ -252,7 +279,10 @@ streamed stand exclude excludes scope window least over known left progress judg
   forgotten = forgotten;
   is = l;
   told_is = told_of stand exclude excludes scope window known left l.last l.earlier judged.calls l.calls_are found is over unaccepted ended l.are judged refl;
-  forgotten_is = refl;
+  gone = gone;
+  gone_is = refl;
+  counted = λ kind. gone_with kind forgotten gone (decided_in (l.last ∷ l.earlier)) judged.calls waiting grown (subst (AreCounted forgotten (decided_in (l.last ∷ l.earlier))) (sym l.calls_are) l.counted);
+  added = grown.added ∙ plus_none forgotten.added ∙ l.added_before;
   skipped = counted;
 }
 

@@ -167,7 +167,7 @@ abbrev pub IsToldOf : Bool → ℕ → Bool → Bool → Option (List ℕ) → O
 IsToldOf true window accepted decided known left last earlier told = IsToldPast window accepted decided last earlier
 IsToldOf false window accepted decided known left last earlier told = IsToldWhole known left last earlier told
 
--- the calls of a text that is read as a stream are told, those that were judged with the last piece, by whether they were accepted and whether that was decided
+-- the calls of a text that is read as a stream are told, those that were judged with the last piece, by whether they were accepted and whether that was decided. Of each kind, all calls are those that are told and those that count as forgotten, with the hits that still wait
 pub record IsStreamed (scope : Scope) (window least : ℕ) (known : Option (List ℕ)) (accepted decided : Bool) (told : Text) (extent : Extent) : Type 0 where
   pub unended : Bool
   pub left : Option (List ℕ)
@@ -178,7 +178,10 @@ pub record IsStreamed (scope : Scope) (window least : ℕ) (known : Option (List
   pub forgotten : Forgotten
   pub is : IsJudgedLast scope window least unended known left progress told waiting waiting_lines latest forgotten extent.from_start
   pub told_is : IsToldOf unended window accepted decided known left is.last is.earlier told
-  pub forgotten_is : extent.forgotten ≡ Some forgotten
+  pub gone : Forgotten
+  pub gone_is : extent.forgotten ≡ Some gone
+  pub counted : AreCounted gone (decided_in (is.last ∷ is.earlier) ++ waiting) told.calls
+  pub added : gone.added ≡ puts_in is.earlier
   pub skipped : IsCounted scope.reading.skip_bad progress.skipped extent.skipped
 
 -- whether a certificate was found

@@ -16,7 +16,7 @@ use crate::forgotten::Forgotten;
 use crate::judged_piece::JudgedPiece;
 use crate::judged_text::JudgedText;
 use crate::judging_text::counted;
-use crate::kind_counts::{counts_of, grown};
+use crate::kind_counts::{counts_of, grown, with_waiting};
 use crate::lined_calls::LinedCalls;
 use crate::listing::faults_of;
 use crate::parted_text::PartedText;
@@ -329,7 +329,7 @@ fn told_with<S: BuildHasher + Copy + Drop>(
     witness_excludes();
     let JudgedPiece {
         warm,
-        waiting: _,
+        waiting,
         bound: _,
         latest: _,
         forgotten,
@@ -337,10 +337,13 @@ fn told_with<S: BuildHasher + Copy + Drop>(
     } = judged;
     let WarmedText { text, from_start } = warm;
     let faults = faults_of(alloc, hash_builder, &text.history, &found)?;
+    let Some(gone) = with_waiting(forgotten, &waiting.history) else {
+        return Err(AllocError);
+    };
     let extent = Extent {
         from_start,
         skipped,
-        forgotten: Some(forgotten),
+        forgotten: Some(gone),
     };
     Ok(JudgedText {
         text,

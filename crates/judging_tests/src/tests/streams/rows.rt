@@ -1,7 +1,8 @@
 // Texts that are judged with a window, each with what comes of it.
 use certificate_finder::Found;
+use figures::Form;
 use history_text::{BadLine, LineCause, ReadTextFault};
-use judge_run::{Scope, judge_stream, judge_text};
+use judge_run::{Scope, judge_stream, judge_text, tell_found};
 use std::alloc::{AllocError, Global};
 use std::hash::{BuildHasherDefault, FoldHasher};
 use std::test::Fail;
@@ -265,5 +266,28 @@ fn a_put_in_the_next_piece_is_no_value_of_the_past(rt: HostRuntime) -> Result<()
     let mut scope = scope(true, 0);
     scope.window = Some(1000);
     assert!(rt; whole(rt.alloc(), text.as_str(), scope) == End::Accepted);
+    Ok(())
+}
+
+/// What is told of a text that is judged by pieces of at least two calls, with a window of 100.
+fn told(alloc: Global, text: &str) -> Result<Option<String>, AllocError> {
+    let known: BuildHasherDefault<FoldHasher> = BuildHasherDefault::new();
+    let mut left = text.as_bytes();
+    let Ok(judged) = judge_stream(alloc, known, Scope::WHOLE, 100, 2, &mut left) else {
+        return Ok(None);
+    };
+    let mut told = String::new(alloc);
+    tell_found(alloc, Form::Json, &mut told, &judged)?;
+    Ok(Some(told))
+}
+
+/// A hit of the last piece that may read a put still to come is counted, though it is not judged.
+#[test]
+fn recent_hits_of_the_last_piece_are_counted(rt: HostRuntime) -> Result<(), Fail> {
+    let text = "a 0 1 put k v\na 2 3 put k w\na 4 5 hit k v\na 6 200 hit j u\na 201 202 miss k\n";
+    let counts =
+        "{\"calls\":4,\"puts\":2,\"removals\":0,\"hits\":2,\"misses\":0,\"calls-forgotten\":1,\"verdict\":\"rejected\"";
+    let told = told(rt.alloc(), text)?;
+    assert!(rt; told.is_some_and(|told| told.as_str().starts_with(counts)));
     Ok(())
 }
