@@ -17,7 +17,6 @@ use Rattle.history_text.specs.Pieces.{GoesOn, Progress, left_of}
 use Rattle.history_text.specs.Text.{Text, endless, no_text, read_by, text_by}
 use Rattle.history_window.specs.Standing.{Acceptable}
 use Rattle.history_window.specs.Streams.{ArePuts, IsKept, IsLastOf, IsPartedIf, Piece, PiecesExclude, PiecesStand, added_in, bound_after, calls_in, decided_in, first_start, judged_in, judged_lines, lines_in, lines_of, waiting_in, waiting_lines_in}
-use Rattle.judge_run.specs.declared.extent.Extent.{Extent}
 use Rattle.judge_run.specs.declared.forgotten.Forgotten.{Forgotten}
 use Rattle.judge_run.specs.declared.kind_counts.KindCounts.{KindCounts}
 use Rattle.judge_run.specs.declared.kinds.CountedKind.{CountedKind}
@@ -228,8 +227,8 @@ joined_many first more first_lines more_lines whole callers is one other =
     subst (λ (t : Text). length t.lines ≡ length t.calls) (sym is) (length-append first_lines more_lines ∙ ap₂ (λ m n. m + n) one other ∙ sym (length-append first more))
 
 -- no more than a number
-plus_none : (n : ℕ) → n + unwrap_or None 0 ≡ n
-plus_none n = arith
+plus_none : (n : ℕ) → n + 0 ≡ n
+plus_none n = omega arith
 
 -- the calls that wait are counted among those that are gone
 gone_with : (kind : CountedKind) (forgotten gone : Forgotten) (all told waiting : List Call) → IsGrown forgotten gone (counts_in waiting) (counts_in []) None → AreCounted forgotten all told → kinds.calls_of kind (all ++ waiting) ≡ kinds.calls_of kind told + streams.forgotten_of kind gone

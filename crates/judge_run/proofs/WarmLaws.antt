@@ -1,5 +1,5 @@
 -- A text that is warmed has as many lines as calls.
-use Rattle.std.proofs.Common.{◌≡◌, ◌∙◌, ◌<◌, ◌+◌, ℕ, List, [], ◌∷◌, ◌++◌, Some, All, ap, arith, length, refl, slice_get, suc, sym, zero, filter_map}
+use Rattle.std.proofs.Common.{◌≡◌, ◌∙◌, ◌<◌, ℕ, List, [], ◌∷◌, ◌++◌, Some, All, ap, arith, length, refl, slice_get, suc, sym, zero, filter_map}
 use Rattle.std.proofs.lemmas.List.{length-append, length-map}
 use Rattle.std.proofs.lemmas.Option.{slice_get-get_or}
 use Rattle.trace_file.specs.declared.call.Call.{Call}
