@@ -1,20 +1,21 @@
 -- Why a hit can have read no put.
-use Rattle.std.proofs.Common.{◌≡◌, ℕ, ◌+◌, ◌^◌, ◌<◌, ◌≤◌, ◌⊎◌, Option, Some, None, List, [], ◌∷◌, ◌++◌, sym, ap, ◌∙◌, subst, arith, inl, inr}
-use Rattle.std.specs.Prelude.{All, Contains, map, slice_get, MatchOption}
-use Rattle.std.proofs.lemmas.Bool.{cases_eq, cases_lt}
-use Rattle.std.proofs.lemmas.List.{map_push}
+use Rattle.std.proofs.Common.{◌≡◌, ℕ, ◌+◌, ◌-◌, ◌^◌, ◌<◌, ◌≤◌, ◌⊎◌, zero, suc, Bool, true, false, Option, Some, None, List, [], ◌∷◌, ◌++◌, drop, get_or, length, take, refl, sym, ap, ◌∙◌, subst, arith, inl, inr}
+use Rattle.std.specs.Prelude.{All, Contains, map, nat_lt, slice_get, MatchOption}
+use Rattle.std.proofs.lemmas.Bool.{cases_eq, cases_lt, ltb-false, ltb-true}
+use Rattle.std.proofs.lemmas.List.{get_or-drop, length-drop, map_push, take_more}
 use Rattle.std.proofs.lemmas.List.Elements.{All-nil, All-push, Contains-append_left, Contains-push}
-use Rattle.std.proofs.lemmas.Option.{slice_get_within}
+use Rattle.std.proofs.lemmas.Option.{get_or_from_slice_get, slice_get_within}
 use Rattle.certificate_finder.specs.declared.excluded.Excluded.{Excluded}
 use Rattle.certificate_finder.specs.declared.excluded.Excuse.{Excuse}
 use Rattle.certificate_finder.specs.declared.excluded.Excuse.TheVariants.{Later, Expired, Replaced}
 use Rattle.certificate_finder.specs.declared.put.Put.{Put}
 use Rattle.certificate_finder.specs.declared.numbered_call.NumberedCall.{NumberedCall}
-use Rattle.certificate_finder.specs.Excluding.{AreExcluded, ExcludesStep, IsExcludedStep, IsExcuse}
+use Rattle.certificate_finder.specs.Excluding.{AreExcluded, AreLike, ExcludesStep, IsExcludedStep, IsExcuse, excuse_by, excuse_of, excused, excused_between}
 use Rattle.certificate_finder.specs.Lists.{TellsOne}
 use Rattle.certificate_finder.specs.Owning.{ReadsNoLive}
 use Rattle.certificate_finder.specs.Putting.{AreInOrder, ArePuts, EndsOver, IsFitPut, IsOver, Putting, TellsPut, put_rank, value_rank}
 use Rattle.certificate_finder.specs.Writing.{IsSplit, IsSplitBelow}
+use Rattle.certificate_finder.proofs.EndLemmas.{found_at}
 use Rattle.certificate_finder.proofs.Listing.{all_at, index_of, same_at}
 use Rattle.certificate_finder.proofs.OwnLemmas.{may_read}
 use Rattle.certificate_finder.proofs.Ranking.{squeezed_key, squeezed_value}
@@ -108,3 +109,69 @@ module _ (steps : List NumberedCall) (puts : List Put) (are : ArePuts steps puts
           | inr behind ↦ absurd (lesser hit.key hit.value t.item.start fit.start (subst (λ v. value_rank hit.key hit.value 18446744073709551615 < value_rank hit.key v t.item.start) value (subst (λ l. value_rank hit.key hit.value 18446744073709551615 < value_rank l t.item.value t.item.start) key (split.high k.0 t.item (omega arith) k.1))))
         ];
   }
+
+-- ---- the puts of the key and value, by their indexes
+
+apart : (k v rank : ℕ) → rank < value_rank k v 0 → value_rank k v 18446744073709551615 < rank → ⊥
+apart k v rank low high = omega arith
+
+pub from_upto : (puts : List Put) (hit : NumberedCall) (from upto : ℕ) → AreLike puts hit from upto → from ≤ upto
+from_upto puts hit from upto like = elim (cases_lt upto from) [
+  | inl less ↦
+      let bound : from ≤ length puts = like.low.bound in
+      let p = found_at puts upto (omega arith) in
+      absurd (apart hit.key hit.value (put_rank p.0) (like.low.low upto p.0 less p.1) (like.high.high upto p.0 (omega arith) p.1))
+  | inr le ↦ le
+]
+
+module _ (puts : List Put) (hit : NumberedCall) (from : ℕ) where
+  pub excused_none : excused_between puts hit from from ≡ []
+  excused_none = let none : from - from ≡ 0 = omega arith in ap (λ n. map (excused hit) (take n (drop from puts))) none
+
+  pub excused_more : (index : ℕ) (put : Put) → from ≤ index → slice_get puts index ≡ Some put → excused_between puts hit from (index + 1) ≡ excused_between puts hit from index ++ excused hit put ∷ []
+  excused_more index put le at =
+      let within = slice_get_within puts index put at in
+      let rest = length-drop from puts in
+      let less : index - from < length (drop from puts) = omega arith in
+      let next : index + 1 - from ≡ (index - from) + 1 = omega arith in
+      let place : from + (index - from) ≡ index = omega arith in
+      let here : get_or (drop from puts) (index - from) put ≡ put = get_or-drop from puts (index - from) put ∙ ap (λ k. get_or puts k put) place ∙ get_or_from_slice_get puts index put put at in
+      ap (λ n. map (excused hit) (take n (drop from puts))) next
+      ∙ ap (map (excused hit)) (take_more (drop from puts) (index - from) put less)
+      ∙ ap (λ p. map (excused hit) (take (index - from) (drop from puts) ++ p ∷ [])) here
+      ∙ map_push (excused hit) (take (index - from) (drop from puts)) put
+
+-- the excuse is one
+module _ (hit : NumberedCall) (put : Put) where
+  excuse_is : (later gone : Bool) (over : Option ℕ) → nat_lt hit.end put.start ≡ later → nat_lt put.dead hit.start ≡ gone → put.over ≡ over → IsExcuse put hit (excuse_by later gone over)
+  excuse_is true gone over l g o = ltb-true hit.end put.start l
+  excuse_is false true None l g o = (ltb-false hit.end put.start l, inl o)
+  excuse_is false true (Some write) l g o = (o, ltb-true put.dead hit.start g)
+  excuse_is false false over l g o = (ltb-false hit.end put.start l, inr (ltb-false put.dead hit.start g))
+
+  pub is_excuse : IsExcuse put hit (excuse_of hit put)
+  is_excuse = excuse_is (nat_lt hit.end put.start) (nat_lt put.dead hit.start) put.over refl refl refl
+
+-- all of them are excluded
+module _ (steps : List NumberedCall) (puts : List Put) (are : ArePuts steps puts) (hit : NumberedCall) (small : hit.start < 2 ^ 64) (low : hit.value < 2 ^ 32) (none : ReadsNoLive steps hit) (from upto : ℕ) (like : AreLike puts hit from upto) where
+  abbrev SoFar : ℕ → Type 0
+  SoFar k = ExcludedSoFar steps puts hit k (excused_between puts hit from k)
+
+  excluded_upto : (n : ℕ) → from + n ≤ upto → SoFar (from + n)
+  excluded_upto zero le =
+      let same : from ≡ from + 0 = omega arith in
+      subst SoFar same (subst (ExcludedSoFar steps puts hit from) (sym (excused_none puts hit from)) (excluded_begin steps puts hit from like.low))
+  excluded_upto (suc n) le =
+      let less : from + n < upto = omega arith in
+      let next : from + n + 1 ≡ from + suc n = omega arith in
+      let bound : upto ≤ length puts = like.high.bound in
+      let p = found_at puts (from + n) (omega arith) in
+      subst SoFar next (subst (ExcludedSoFar steps puts hit (from + n + 1)) (sym (excused_more puts hit from (from + n) p.0 (omega arith) p.1))
+      (excluded_more steps puts are hit small none (from + n) p.0 (excuse_of hit p.0) (excused_between puts hit from (from + n)) (excluded_upto n (omega arith)) p.1
+      (is_like puts hit from upto (from + n) p.0 are.in_order low like.low like.high (omega arith) less p.1) (is_excuse hit p.0)))
+
+  pub excluded_all : AreExcluded steps hit (excused_between puts hit from upto)
+  excluded_all =
+      let le = from_upto puts hit from upto like in
+      let whole : from + (upto - from) ≡ upto = omega arith in
+      excluded_end steps puts are hit small none upto upto (excused_between puts hit from upto) (subst SoFar whole (excluded_upto (upto - from) (omega arith))) (omega arith) like.high

@@ -15,6 +15,7 @@ mod Zones
 mod StepLemmas
 mod OwnLemmas
 mod ExcludingLemmas
+mod LateLemmas
 mod EndLemmas
 mod ZoneLemmas
 mod FindLemmas

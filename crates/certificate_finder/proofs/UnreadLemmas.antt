@@ -1,7 +1,7 @@
 -- Hits that would cross two writes whichever put they read, in numbers and of their history.
-use Rattle.std.proofs.Common.{◌≡◌, ℕ, ◌+◌, ◌<◌, ◌≤◌, Bool, true, false, Some, List, [], ◌∷◌, ◌++◌, length, refl, sym, ap, ◌∙◌, subst, arith, inl, inr, get_or}
+use Rattle.std.proofs.Common.{◌≡◌, ℕ, ◌+◌, ◌<◌, ◌≤◌, Bool, true, false, Option, None, Some, List, [], ◌∷◌, ◌++◌, length, refl, sym, ap, ◌∙◌, subst, arith, inl, inr, get_or}
 use Rattle.std.specs.Option.{option_map}
-use Rattle.std.specs.Prelude.{All, AllPairs, Contains, IsSomeAnd, IsTrue, slice_get}
+use Rattle.std.specs.Prelude.{All, AllPairs, Contains, IsSomeAnd, IsTrue, MatchOption, slice_get}
 use Rattle.std.proofs.lemmas.Bool.{cases_eq, cases_lt}
 use Rattle.std.proofs.lemmas.List.{length-map, map_push}
 use Rattle.std.proofs.lemmas.List.Elements.{All-contains, All-nil, All-push, All-weaker, Contains-append_left, Contains-push}
@@ -25,7 +25,7 @@ use Rattle.certificate_finder.specs.declared.stamp.Stamp.TheVariants.{End}
 use Rattle.certificate_finder.specs.declared.unread_hit.UnreadHit.{UnreadHit}
 use Rattle.certificate_finder.specs.declared.witness.Witness.TheVariants.{Unread}
 use Rattle.certificate_finder.specs.Choosing.{IsEarlierBy}
-use Rattle.certificate_finder.specs.Faults.{AreUnreadHits, unread_in}
+use Rattle.certificate_finder.specs.Faults.{AreUnreadHits, IsUnreadHit, unread_in}
 use Rattle.certificate_finder.specs.Finding.{AreForward, IsFound}
 use Rattle.certificate_finder.specs.Lining.{positions_in}
 use Rattle.certificate_finder.specs.Offering.{AreByStamps, ReadsIn, stamp_at}
@@ -35,7 +35,7 @@ use Rattle.certificate_finder.specs.Reads.{CouldRead, HasSeveral}
 use Rattle.certificate_finder.specs.Steps.{AreSteps, IsWriting}
 use Rattle.certificate_finder.specs.Trying.{AreSure}
 use Rattle.certificate_finder.specs.Turns.{end_at}
-use Rattle.certificate_finder.specs.Unreading.{AreReadsFrom, AreUnreadOf, AreUnreadUpto, HasOpen, IsBelow, IsCrossedIf, IsCrossedRead, IsLookedAt, IsUnreadIn, puts_in}
+use Rattle.certificate_finder.specs.Unreading.{AreReadsFrom, AreUnreadOf, AreUnreadUpto, HasOpen, IsBelow, IsCrossedIf, IsCrossedRead, IsFirstUnreadIn, IsFirstUnreadOf, IsLookedAt, IsShortUnread, IsUnreadIn, puts_in}
 use Rattle.certificate_finder.specs.Witnesses.{AreCrossedIfRead, GoesIfRead, GoesWith, IsUnread, IsUnreadBy, PrecedesAt}
 use Rattle.certificate_finder.specs.Zones.{AreUncrossed, Goes}
 use Rattle.certificate_finder.proofs.EndLemmas.{found_at}
@@ -119,10 +119,10 @@ module _ (steps : List NumberedCall) (owners : List ℕ) (hit : ℕ) (puts : Lis
 
 -- ---- the hits whose puts would all be crossed
 
-module _ (steps : List NumberedCall) (owners hits : List ℕ) where
-  pub unread_begin : AreUnreadUpto steps owners hits 0 []
+module _ (steps : List NumberedCall) (owners : List ℕ) (most : ℕ) (hits : List ℕ) where
+  pub unread_begin : AreUnreadUpto steps owners most hits 0 []
   unread_begin = record {
-    each = All-nil (λ (unread : UnreadHit). IsUnreadIn steps owners unread.hit unread.reads.items);
+    each = All-nil (IsShortUnread steps owners most);
     below = All-nil (IsBelow hits 0);
     all = λ hit is. let less : is.0 < 0 = is.1 in absurd (omega arith);
     order = λ i j d less within. absurd (omega arith);
@@ -132,7 +132,7 @@ module _ (steps : List NumberedCall) (owners hits : List ℕ) where
   still_below upto hit is = let less : is.0 < upto = is.1 in (is.0, omega arith, is.2)
 
   -- one hit more has a put that would not be crossed
-  pub unread_pass : (upto hit : ℕ) (found : List UnreadHit) → slice_get hits upto ≡ Some hit → HasOpen steps owners hit → AreUnreadUpto steps owners hits upto found → AreUnreadUpto steps owners hits (upto + 1) found
+  pub unread_pass : (upto hit : ℕ) (found : List UnreadHit) → slice_get hits upto ≡ Some hit → HasOpen steps owners hit → AreUnreadUpto steps owners most hits upto found → AreUnreadUpto steps owners most hits (upto + 1) found
   unread_pass upto hit found at open_it had = record {
     each = had.each;
     below = All-weaker (IsBelow hits upto) (IsBelow hits (upto + 1)) (still_below upto) (unread_in found) had.below;
@@ -144,11 +144,11 @@ module _ (steps : List NumberedCall) (owners hits : List ℕ) where
   }
 
   -- one hit more has none
-  pub unread_more : (upto : ℕ) (found new : List UnreadHit) (one : UnreadHit) → AllPairs (IsEarlierBy (stamp_at End steps)) hits → slice_get hits upto ≡ Some one.hit → IsUnreadIn steps owners one.hit one.reads.items → new ≡ found ++ one ∷ [] → AreUnreadUpto steps owners hits upto found → AreUnreadUpto steps owners hits (upto + 1) new
+  pub unread_more : (upto : ℕ) (found new : List UnreadHit) (one : UnreadHit) → AllPairs (IsEarlierBy (stamp_at End steps)) hits → slice_get hits upto ≡ Some one.hit → IsShortUnread steps owners most one → new ≡ found ++ one ∷ [] → AreUnreadUpto steps owners most hits upto found → AreUnreadUpto steps owners most hits (upto + 1) new
   unread_more upto found new one order at is same had =
       let positions : unread_in new ≡ unread_in found ++ one.hit ∷ [] = ap unread_in same ∙ map_push (λ (unread : UnreadHit). unread.hit) found one in
       record {
-        each = subst (All (λ (unread : UnreadHit). IsUnreadIn steps owners unread.hit unread.reads.items)) (sym same) (All-push (λ (unread : UnreadHit). IsUnreadIn steps owners unread.hit unread.reads.items) found one had.each is);
+        each = subst (All (IsShortUnread steps owners most)) (sym same) (All-push (IsShortUnread steps owners most) found one had.each is);
         below = subst (All (IsBelow hits (upto + 1))) (sym positions) (All-push (IsBelow hits (upto + 1)) (unread_in found) one.hit (All-weaker (IsBelow hits upto) (IsBelow hits (upto + 1)) (still_below upto) (unread_in found) had.below) (upto, omega arith, at));
         all = λ other below. let less : below.0 < upto + 1 = below.1 in elim (cases_eq below.0 upto) [
           | inl here ↦
@@ -164,9 +164,31 @@ module _ (steps : List NumberedCall) (owners hits : List ℕ) where
             pair_at (IsEarlierBy (stamp_at End steps)) hits b.0 upto (get_or (unread_in found) k d) one.hit order b.1 b.2 at));
       }
 
+-- ---- the first of them
+
+module _ (steps : List NumberedCall) (owners hits : List ℕ) where
+  -- each hit below an index can have read a put that would not be crossed
+  abbrev pub AreOpenUpto : ℕ → Type 0
+  AreOpenUpto upto = (k hit : ℕ) → k < upto → slice_get hits k ≡ Some hit → HasOpen steps owners hit
+
+  -- one hit more can
+  pub open_more : (upto hit : ℕ) → AreOpenUpto upto → slice_get hits upto ≡ Some hit → HasOpen steps owners hit → AreOpenUpto (upto + 1)
+  open_more upto hit had at open_it = λ k other less at_k. elim (cases_eq k upto) [
+    | inl here ↦ subst (HasOpen steps owners) (same_at hits upto k hit other (sym here) at at_k) open_it
+    | inr apart ↦ had k other (omega arith) at_k
+  ]
+
+  -- one can't
+  pub open_ends : (upto : ℕ) (unread : UnreadHit) → AreOpenUpto upto → slice_get hits upto ≡ Some unread.hit → IsUnreadIn steps owners unread.hit unread.reads.items → IsFirstUnreadIn steps owners hits unread
+  open_ends upto unread had at is = record { place = upto; at = at; is = is; before = had }
+
+  -- all can
+  pub open_all : (upto : ℕ) → length hits ≤ upto → AreOpenUpto upto → All (HasOpen steps owners) hits
+  open_all upto long had = all_from_at (HasOpen steps owners) hits (λ k hit at. let within = slice_get_within hits k hit at in had k hit (omega arith) at)
+
 -- all hits were looked at
-pub all_unread : (steps : List NumberedCall) (owners unsure : List ℕ) (hits : List Ranked) (found : List UnreadHit) → AreByStamps End steps unsure hits → AreUnreadUpto steps owners (positions_in hits) (length hits) found → AreUnreadOf steps owners unsure found
-all_unread steps owners unsure hits found turned had =
+pub all_unread : (steps : List NumberedCall) (owners : List ℕ) (most : ℕ) (unsure : List ℕ) (hits : List Ranked) (found : List UnreadHit) → AreByStamps End steps unsure hits → AreUnreadUpto steps owners most (positions_in hits) (length hits) found → AreUnreadOf steps owners most unsure found
+all_unread steps owners most unsure hits found turned had =
     let count : length (positions_in hits) ≡ length hits = length-map hits (λ (r : Ranked). r.position) in
     record {
       each = had.each;
@@ -177,6 +199,31 @@ all_unread steps owners unsure hits found turned had =
           had.all hit (k.0, omega arith, k.1);
       order = had.order;
     }
+
+-- the first of hits by their ends is the first of them all
+pub first_of : (steps : List NumberedCall) (owners unsure : List ℕ) (hits : List Ranked) (unread : UnreadHit) → AreByStamps End steps unsure hits → IsFirstUnreadIn steps owners (positions_in hits) unread → IsFirstUnreadOf steps owners unsure unread
+first_of steps owners unsure hits unread turned told = record {
+  among = (turned.same unread.hit).1 (contains_at (positions_in hits) told.place unread.hit told.at);
+  is = told.is;
+  first = λ hit listed.
+      let k = index_of (positions_in hits) hit ((turned.same hit).0 listed) in
+      elim (cases_lt k.0 told.place) [
+        | inl before ↦ inl (told.before k.0 hit before k.1)
+        | inr behind ↦ elim (cases_eq k.0 told.place) [
+          | inl same ↦ inr (inl (same_at (positions_in hits) k.0 told.place hit unread.hit same k.1 told.at))
+          | inr apart ↦ inr (inr (pair_at (IsEarlierBy (stamp_at End steps)) (positions_in hits) told.place k.0 unread.hit hit turned.order (omega arith) told.at k.1))
+        ]
+      ];
+}
+
+-- if each of hits by their ends has a put that stands open, each of them all has
+pub all_open : (steps : List NumberedCall) (owners unsure : List ℕ) (hits : List Ranked) → AreByStamps End steps unsure hits → All (HasOpen steps owners) (positions_in hits) → All (HasOpen steps owners) unsure
+all_open steps owners unsure hits turned all = all_from_at (HasOpen steps owners) unsure (λ k hit at. All-contains (HasOpen steps owners) (positions_in hits) hit all ((turned.same hit).0 (contains_at unsure k hit at)))
+
+-- whichever of the two was found of hits by their ends, it is so of them all
+pub first_found : (steps : List NumberedCall) (owners unsure : List ℕ) (hits : List Ranked) (found : Option UnreadHit) → AreByStamps End steps unsure hits → MatchOption found (All (HasOpen steps owners) (positions_in hits)) (IsFirstUnreadIn steps owners (positions_in hits)) → MatchOption found (All (HasOpen steps owners) unsure) (IsFirstUnreadOf steps owners unsure)
+first_found steps owners unsure hits None turned told = all_open steps owners unsure hits turned told
+first_found steps owners unsure hits (Some unread) turned told = first_of steps owners unsure hits unread turned told
 
 -- hits by their ends are those that can have read several puts
 pub ranked_unsure : (steps : List NumberedCall) (unsure : List ℕ) (hits : List Ranked) → AreByStamps End steps unsure hits → All (IsUnsure steps) unsure → All (IsUnsure steps) (positions_in hits)
@@ -348,16 +395,17 @@ module _ (history : List Call) (steps : List NumberedCall) (are : AreSteps histo
       open_it.open_is listed.0 (subst (λ p. IsCrossedIf steps owners hit p listed.0) (sym listed.2) crossed)
 
   -- these are all hits of the history that would cross two writes whichever of several puts they read
-  pub unread_hits : (unsure : List ℕ) (found : List UnreadHit) → AreSure history owners → All (IsUnsure steps) unsure → ((hit : ℕ) → IsUnsure steps hit → Contains unsure hit) → AreUnreadOf steps owners unsure found → AreUnreadHits history found
-  unread_hits unsure found sure each all told =
-      let by_sure = all_from_at (λ (unread : UnreadHit). IsUnreadBy (Goes owners) history unread.hit unread.reads.items) found (λ k unread at.
-      is_unread unread.hit unread.reads.items (All-contains (IsUnsure steps) unsure unread.hit each (All-contains (Contains unsure) (unread_in found) unread.hit told.among (contains_at (unread_in found) k unread.hit (unread_at found k unread at)))) (all_at (λ (one : UnreadHit). IsUnreadIn steps owners one.hit one.reads.items) found k unread told.each at)) in
+  pub unread_hits : (most : ℕ) (unsure : List ℕ) (found : List UnreadHit) → AreSure history owners → All (IsUnsure steps) unsure → ((hit : ℕ) → IsUnsure steps hit → Contains unsure hit) → AreUnreadOf steps owners most unsure found → AreUnreadHits history most found
+  unread_hits most unsure found sure each all told =
       record {
         owners = owners;
         sure = sure;
-        each = All-weaker (λ (unread : UnreadHit). IsUnreadBy (Goes owners) history unread.hit unread.reads.items) (λ (unread : UnreadHit). IsUnread history unread.hit unread.reads.items) (λ unread is. unread_on unread.hit unread.reads.items is) found by_sure;
+        each = all_from_at (IsUnreadHit history owners most) found (λ k unread at.
+            let short = all_at (IsShortUnread steps owners most) found k unread told.each at in
+            let listed = All-contains (Contains unsure) (unread_in found) unread.hit told.among (contains_at (unread_in found) k unread.hit (unread_at found k unread at)) in
+            let by_sure = is_unread unread.hit short.reads (All-contains (IsUnsure steps) unsure unread.hit each listed) short.is in
+            record { reads = short.reads; is = unread_on unread.hit short.reads by_sure; by_sure = by_sure; first = short.first });
         several = All-weaker (Contains unsure) (HasSeveral history) (λ hit listed. has_several history steps are hit (All-contains (IsUnsure steps) unsure hit each listed)) (unread_in found) told.among;
-        by_sure = by_sure;
         all = λ hit reads several is. elim (told.all hit (all hit (several_of history steps are hit several))) [
           | inl open_it ↦ absurd (open_back hit reads open_it is)
           | inr listed ↦ listed
@@ -367,9 +415,9 @@ module _ (history : List Call) (steps : List NumberedCall) (are : AreSteps histo
       }
 
 -- such hits of known owners
-pub unread_known : (history : List Call) (steps : List NumberedCall) → AreSteps history steps → (owners : Owners) → AreKnownOwners steps (length steps) owners → (found : List UnreadHit) → AreUnreadOf steps owners.owners.items owners.unsure.items found → AreUnreadHits history found
-unread_known history steps are owners own found told =
-    unread_hits history steps are owners.owners.items (single_known steps owners own) owners.unsure.items found
+pub unread_known : (history : List Call) (steps : List NumberedCall) → AreSteps history steps → (owners : Owners) → AreKnownOwners steps (length steps) owners → (most : ℕ) (found : List UnreadHit) → AreUnreadOf steps owners.owners.items most owners.unsure.items found → AreUnreadHits history most found
+unread_known history steps are owners own most found told =
+    unread_hits history steps are owners.owners.items (single_known steps owners own) most owners.unsure.items found
     (are_sure history steps are owners.owners.items own.count own.owned)
     own.unsure.each
     (λ hit is. own.unsure.all hit (slice_get_within steps hit is.step is.at) is)
@@ -381,42 +429,40 @@ module _ (history : List Call) (steps : List NumberedCall) (are : AreSteps histo
   unread_back : (hit : ℕ) (reads : List CrossedWrites) → IsUnread history hit reads → IsUnreadBy (Goes owners) history hit reads
   unread_back = unread_weaker (GoesWith history) (Goes owners) (goes_back history steps are owners unsure own) history
 
-  -- such a hit is listed
-  listed_unread : (found : List UnreadHit) → AreUnreadOf steps owners unsure found → (hit : ℕ) (reads : List CrossedWrites) → IsUnread history hit reads → Contains (unread_in found) hit
-  listed_unread found told hit reads is =
-      let unsure_is = several_of history steps are hit (unread_several history steps are owners unsure own (not_crossed history steps are owners unsure own un) hit reads is) in
-      elim (told.all hit (own.all hit (slice_get_within steps hit unsure_is.step unsure_is.at) unsure_is)) [
-        | inl open_it ↦ absurd (open_back history steps are owners (single_sure steps owners unsure own) hit reads open_it (unread_back hit reads is))
-        | inr listed ↦ listed
-      ]
+  -- such a hit may have read several puts, and none of them stands open
+  none_open : (hit : ℕ) (reads : List CrossedWrites) → IsUnread history hit reads → Contains unsure hit × (¬ HasOpen steps owners hit)
+  none_open hit reads is =
+      let unsure_is = several_of history steps are hit (unread_several history steps are owners unsure own (not_crossed history steps are owners unsure own un) hit reads is) in (
+        own.all hit (slice_get_within steps hit unsure_is.step unsure_is.at) unsure_is,
+        λ open_it. open_back history steps are owners (single_sure steps owners unsure own) hit reads open_it (unread_back hit reads is),
+      )
 
-  -- none is listed, so there is none
-  pub none_unread : (found : List UnreadHit) → length found ≡ 0 → AreUnreadOf steps owners unsure found → (hit : ℕ) (reads : List CrossedWrites) → ¬ IsUnread history hit reads
-  none_unread found none told hit reads is =
-      let listed = listed_unread found told hit reads is in
-      let less : listed.0 < length (unread_in found) = listed.1 in
-      let count : length (unread_in found) ≡ length found = length-map found (λ (unread : UnreadHit). unread.hit) in
-      omega arith
+  -- each can have read a put that stands open, so there is none
+  pub none_unread : All (HasOpen steps owners) unsure → (hit : ℕ) (reads : List CrossedWrites) → ¬ IsUnread history hit reads
+  none_unread all hit reads is =
+      let none = none_open hit reads is in
+      none.1 (All-contains (HasOpen steps owners) unsure hit all none.0)
 
   -- the first one is told
-  pub found_unread : (found : List UnreadHit) (unread : UnreadHit) → slice_get found 0 ≡ Some unread → AreUnreadOf steps owners unsure found → AreForward history → IsFound history (Rejected (Unread unread))
-  found_unread found unread at told forward =
+  pub found_unread : (unread : UnreadHit) → IsFirstUnreadOf steps owners unsure unread → AreForward history → IsFound history (Rejected (Unread unread))
+  found_unread unread told forward =
       let single = single_sure steps owners unsure own in
-      let zero : slice_get (unread_in found) 0 ≡ Some unread.hit = unread_at found 0 unread at in
-      let is = all_at (λ (one : UnreadHit). IsUnreadIn steps owners one.hit one.reads.items) found 0 unread told.each at in
-      let unsure_is = All-contains (IsUnsure steps) unsure unread.hit own.are_unsure (all_at (Contains unsure) (unread_in found) 0 unread.hit told.among zero) in
+      let unsure_is = All-contains (IsUnsure steps) unsure unread.hit own.are_unsure told.among in
       record {
         accepted = tt;
-        rejected = unread_on history steps are owners single unread.hit unread.reads.items (is_unread history steps are owners single unread.hit unread.reads.items unsure_is is);
+        rejected = unread_on history steps are owners single unread.hit unread.reads.items (is_unread history steps are owners single unread.hit unread.reads.items unsure_is told.is);
         first = record {
           forward = forward;
           some = some_read history steps are owners unsure own;
           uncrossed = not_crossed history steps are owners unsure own un;
           first = λ other reads other_is.
-              let k = index_of (unread_in found) other (listed_unread found told other reads other_is) in
-              elim (cases_eq k.0 0) [
-                | inl same ↦ inl (same_at (unread_in found) k.0 0 other unread.hit same k.1 zero)
-                | inr behind ↦ inr (ends_earlier history steps are unread.hit other (pair_at (IsEarlierBy (stamp_at End steps)) (unread_in found) 0 k.0 unread.hit other told.order (omega arith) zero k.1))
+              let none = none_open other reads other_is in
+              elim (told.first other none.0) [
+                | inl open_it ↦ absurd (none.1 open_it)
+                | inr rest ↦ elim rest [
+                  | inl same ↦ inl same
+                  | inr behind ↦ inr (ends_earlier history steps are unread.hit other behind)
+                ]
               ];
         };
         undecided = tt;

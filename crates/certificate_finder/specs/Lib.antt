@@ -6,6 +6,7 @@ pub mod Excluding
 pub mod Faults
 pub mod Finding
 pub mod Hits
+pub mod Lateness
 pub mod Laws
 pub mod Leaves
 pub mod Lining

@@ -1,5 +1,5 @@
 -- Hits that would cross two writes whichever put they read, in numbers.
-use Rattle.std.specs.Prelude.{◌≡◌, ◌≢◌, ℕ, ◌<◌, ◌≤◌, ◌⊎◌, ◌++◌, ◌∷◌, [], List, All, AllPairs, Bool, true, false, Contains, IsTrue, MatchOption, Option, length, map, slice_get, Some}
+use Rattle.std.specs.Prelude.{◌≡◌, ◌≢◌, ℕ, ◌<◌, ◌≤◌, ◌⊎◌, ◌++◌, ◌∷◌, [], List, All, AllPairs, Bool, true, false, Contains, IsTrue, MatchOption, Option, length, map, slice_get, take, Some}
 use Rattle.std.specs.List.Sorted.{IsNonDecreasingBy}
 use Rattle.record_pages.specs.Expiry.{is_live}
 use Rattle.certificate_finder.specs.declared.by_ends.ByEnds.{ByEnds}
@@ -158,16 +158,35 @@ pub record HasOpen (steps : List NumberedCall) (owners : List ℕ) (hit : ℕ) :
 abbrev pub IsBelow : List ℕ → ℕ → ℕ → Type 0
 IsBelow hits upto hit = (k : ℕ) × (k < upto) × (slice_get hits k ≡ Some hit)
 
+-- of all puts that a hit can have read, each of which would be crossed, the first so many are listed
+pub record IsShortUnread (steps : List NumberedCall) (owners : List ℕ) (most : ℕ) (unread : UnreadHit) : Type 0 where
+  pub reads : List CrossedWrites
+  pub is : IsUnreadIn steps owners unread.hit reads
+  pub first : unread.reads.items ≡ take most reads
+
+-- the puts of this hit would all be crossed, and each hit before it can have read one that would not be
+pub record IsFirstUnreadIn (steps : List NumberedCall) (owners hits : List ℕ) (unread : UnreadHit) : Type 0 where
+  pub place : ℕ
+  pub at : slice_get hits place ≡ Some unread.hit
+  pub is : IsUnreadIn steps owners unread.hit unread.reads.items
+  pub before : (k hit : ℕ) → k < place → slice_get hits k ≡ Some hit → HasOpen steps owners hit
+
+-- the same of hits in whatever order: no other one that ends earlier, or of the same end stands earlier, has puts that would all be crossed
+pub record IsFirstUnreadOf (steps : List NumberedCall) (owners unsure : List ℕ) (unread : UnreadHit) : Type 0 where
+  pub among : Contains unsure unread.hit
+  pub is : IsUnreadIn steps owners unread.hit unread.reads.items
+  pub first : (hit : ℕ) → Contains unsure hit → HasOpen steps owners hit ⊎ ((hit ≡ unread.hit) ⊎ IsEarlierBy (stamp_at End steps) unread.hit hit)
+
 -- of the hits below an index these are those whose puts would all be crossed, by their ends
-pub record AreUnreadUpto (steps : List NumberedCall) (owners hits : List ℕ) (upto : ℕ) (found : List UnreadHit) : Type 0 where
-  pub each : All (λ (unread : UnreadHit). IsUnreadIn steps owners unread.hit unread.reads.items) found
+pub record AreUnreadUpto (steps : List NumberedCall) (owners : List ℕ) (most : ℕ) (hits : List ℕ) (upto : ℕ) (found : List UnreadHit) : Type 0 where
+  pub each : All (IsShortUnread steps owners most) found
   pub below : All (IsBelow hits upto) (unread_in found)
   pub all : (hit : ℕ) → IsBelow hits upto hit → HasOpen steps owners hit ⊎ Contains (unread_in found) hit
   pub order : AllPairs (IsEarlierBy (stamp_at End steps)) (unread_in found)
 
 -- of these hits those whose puts would all be crossed, by their ends
-pub record AreUnreadOf (steps : List NumberedCall) (owners unsure : List ℕ) (found : List UnreadHit) : Type 0 where
-  pub each : All (λ (unread : UnreadHit). IsUnreadIn steps owners unread.hit unread.reads.items) found
+pub record AreUnreadOf (steps : List NumberedCall) (owners : List ℕ) (most : ℕ) (unsure : List ℕ) (found : List UnreadHit) : Type 0 where
+  pub each : All (IsShortUnread steps owners most) found
   pub among : All (Contains unsure) (unread_in found)
   pub all : (hit : ℕ) → Contains unsure hit → HasOpen steps owners hit ⊎ Contains (unread_in found) hit
   pub order : AllPairs (IsEarlierBy (stamp_at End steps)) (unread_in found)

@@ -8,8 +8,11 @@ use crate::witness::Side;
 pub struct WrongHit {
     /// The hit's position.
     pub hit: u32,
-    /// All puts of its key and value, each with what excludes it.
+    /// Of the puts of its key and value, by their starts, the first so many as were asked for, each with what excludes it.
     pub puts: Vec<Excluded>,
+    /// How late it is: from the end of the last write that replaced one of all its puts to its start, in the unit of the stamps.
+    /// It is not known of a hit that no write replaced, or that may have read a value that had expired.
+    pub late: Option<u64>,
 }
 
 /// Two writes of a key, each of which has to stand before the other.

@@ -24,7 +24,7 @@ use crate::owning::Owners;
 use crate::put::Put;
 use crate::ranked::ranked_at;
 use crate::reversed::reversed_of;
-use crate::unread::unread_hits_of;
+use crate::unread::first_unread_of;
 use crate::witness::Witness;
 use crate::zoning::zones_of;
 use std::alloc::{AllocError, Global};
@@ -176,11 +176,8 @@ fn chosen(
     if let Some(certificate) = by_rules {
         return Ok(Found::Accepted(certificate));
     }
-    let mut unread = unread_hits_of(alloc, steps, puts, owners, doubtful)?;
-    let listed = unread.as_slice();
-    if listed.is_empty() {
-        return Ok(Found::Undecided(unsure));
+    match first_unread_of(alloc, steps, puts, owners, doubtful)? {
+        Some(first) => Ok(Found::Rejected(Witness::Unread(first))),
+        None => Ok(Found::Undecided(unsure)),
     }
-    let first = unread.swap_remove(0);
-    Ok(Found::Rejected(Witness::Unread(first)))
 }

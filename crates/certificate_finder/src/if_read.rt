@@ -1,5 +1,5 @@
 // What would be crossed if a hit read a put.
-ghost use Rattle.std.specs.Prelude.{◌≡◌, ◌<◌, ◌^◌, All, AllPairs, IfOk, MatchOption, length};
+ghost use Rattle.std.specs.Prelude.{◌≡◌, ◌<◌, ◌^◌, All, AllPairs, IfOk, MatchOption, length, take};
 ghost use Rattle.certificate_finder.specs.Choosing.{IsEarlierBy};
 ghost use Rattle.certificate_finder.specs.declared.stamp.Stamp.TheVariants.{End};
 ghost use Rattle.certificate_finder.specs.Lining.{positions_in};
@@ -7,7 +7,7 @@ ghost use Rattle.certificate_finder.specs.Offering.{AreGroups, AreLinks, stamp_a
 ghost use Rattle.certificate_finder.specs.Owning.{IsUnsure};
 ghost use Rattle.certificate_finder.specs.Putting.{ArePuts};
 ghost use Rattle.certificate_finder.specs.Steps.{IsFit};
-ghost use Rattle.certificate_finder.specs.Unreading.{AreByEnds, AreUnreadUpto, HasOpen, IsCrossedIf, IsLookedAt, IsOpen, IsUnreadIn};
+ghost use Rattle.certificate_finder.specs.Unreading.{AreByEnds, AreUnreadUpto, HasOpen, IsCrossedIf, IsFirstUnreadIn, IsLookedAt, IsOpen, IsUnreadIn};
 
 use crate::by_ends::{ByEnds, last_other};
 use crate::faults::CrossedWrites;
@@ -122,7 +122,21 @@ fn crossed_reads(
     Ok(Some(reads))
 }
 
-/// Those of these hits whose puts would all be crossed, in their order.
+/// The first so many of these.
+fn first_reads(
+    alloc: Global,
+    reads: &[CrossedWrites],
+    most: usize,
+) -> Result<Vec<CrossedWrites>, AllocError>
+    ensures { IfOk result (λ first. first.items ≡ take most reads.now) }
+{
+    let few = &reads[..reads.len().min(most)];
+    let mut first = Vec::new(alloc);
+    first.extend_from_slice(few)?;
+    Ok(first)
+}
+
+/// Those of these hits whose puts would all be crossed, in their order, each with the first so many of the puts that it can have read.
 pub(crate) fn unread_among(
     alloc: Global,
     steps: &[NumberedCall],
@@ -131,6 +145,7 @@ pub(crate) fn unread_among(
     groups: &Groups,
     by_ends: &ByEnds,
     hits: &[Ranked],
+    most: usize,
 ) -> Result<Vec<UnreadHit>, AllocError>
     requires fit { All IsFit steps.now }
     requires puts { ArePuts steps.now puts.now }
@@ -139,15 +154,46 @@ pub(crate) fn unread_among(
     requires by_ends { AreByEnds steps.now groups.now.owners.items by_ends.now }
     requires unsure { All (IsUnsure steps.now) (positions_in hits.now) }
     requires order { AllPairs (IsEarlierBy (stamp_at End steps.now)) (positions_in hits.now) }
-    ensures { IfOk result (λ found. AreUnreadUpto steps.now groups.now.owners.items (positions_in hits.now) (length hits.now) found.items) }
+    ensures { IfOk result (λ found. AreUnreadUpto steps.now groups.now.owners.items most (positions_in hits.now) (length hits.now) found.items) }
 {
     let mut found = Vec::new(alloc);
     for index in 0..hits.len() {
         let hit = ranked_at(hits, index).position;
         let listed = crossed_reads(alloc, steps, puts, links, groups, by_ends, hit)?;
         if let Some(reads) = listed {
+            let reads = first_reads(alloc, reads.as_slice(), most)?;
             found.push(UnreadHit { hit, reads })?;
         }
     }
     Ok(found)
+}
+
+/// The first of these hits whose puts would all be crossed, with all puts that it can have read.
+pub(crate) fn first_unread(
+    alloc: Global,
+    steps: &[NumberedCall],
+    puts: &[Put],
+    links: &[u32],
+    groups: &Groups,
+    by_ends: &ByEnds,
+    hits: &[Ranked],
+) -> Result<Option<UnreadHit>, AllocError>
+    requires fit { All IsFit steps.now }
+    requires puts { ArePuts steps.now puts.now }
+    requires links { AreLinks puts.now links.now }
+    requires groups { AreGroups steps.now groups.now }
+    requires by_ends { AreByEnds steps.now groups.now.owners.items by_ends.now }
+    requires unsure { All (IsUnsure steps.now) (positions_in hits.now) }
+    ensures { IfOk result (λ found. MatchOption found
+        (All (HasOpen steps.now groups.now.owners.items) (positions_in hits.now))
+        (IsFirstUnreadIn steps.now groups.now.owners.items (positions_in hits.now))) }
+{
+    for index in 0..hits.len() {
+        let hit = ranked_at(hits, index).position;
+        let listed = crossed_reads(alloc, steps, puts, links, groups, by_ends, hit)?;
+        if let Some(reads) = listed {
+            return Ok(Some(UnreadHit { hit, reads }));
+        }
+    }
+    Ok(None)
 }

@@ -6,7 +6,7 @@ use crate::faults::CrossedWrites;
 pub struct UnreadHit {
     /// The hit's position.
     pub hit: u32,
-    /// All puts that the hit can have read, each with what it would be crossed with. The put is the write of the first side, and the hit
-    /// may be one of that side's two calls.
+    /// The puts that the hit can have read, each with what it would be crossed with: all of them in what `find` tells, the first so many
+    /// in what `find_faults` lists. The put is the write of the first side, and the hit may be one of that side's two calls.
     pub reads: Vec<CrossedWrites>,
 }

@@ -27,7 +27,7 @@ in_list xs p h = member_contained xs p (contains_from_any xs p h)
 pub list_in : (xs : List ℕ) (p : ℕ) → Member p xs → is_in xs p ≡ true
 list_in xs p m = any_from_contains xs p (contained_member xs p m)
 
-look_right : {X : Type 0} (xs ys : List X) (i j : ℕ) → i ≡ length xs + j → slice_get (xs ++ ys) i ≡ slice_get ys j
+pub look_right : {X : Type 0} (xs ys : List X) (i j : ℕ) → i ≡ length xs + j → slice_get (xs ++ ys) i ≡ slice_get ys j
 look_right [] ys i j e = let same : i ≡ j = omega arith in ap (slice_get ys) same
 look_right (x ∷ xs) ys zero j e = absurd (omega arith)
 look_right (x ∷ xs) ys (suc i) j e = look_right xs ys i j (omega arith)

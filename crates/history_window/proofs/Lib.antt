@@ -9,6 +9,13 @@ mod Growing
 mod Warming
 mod PastLemmas
 mod Pieces
+mod Placing
+mod Chosen
+mod Judging
+mod Having
+mod Firsts
+mod Reading
+mod Passing
 mod Keeping
 mod Showing
 mod Dropping

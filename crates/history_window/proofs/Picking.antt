@@ -28,13 +28,13 @@ look_past [] i past = refl
 look_past (x ∷ xs) zero past = absurd (omega arith)
 look_past (x ∷ xs) (suc i) past = look_past xs i (omega arith)
 
-none_past : {X : Type 0} (xs : List X) (i : ℕ) → slice_get xs i ≡ None → length xs ≤ i
+pub none_past : {X : Type 0} (xs : List X) (i : ℕ) → slice_get xs i ≡ None → length xs ≤ i
 none_past [] i none = omega arith
 none_past (x ∷ xs) zero none = cc
 none_past (x ∷ xs) (suc i) none = let past = none_past xs i none in omega (arith, past)
 
 -- in a list without repetition each element has one place
-one_place : (xs : List ℕ) (i j p : ℕ) → Once xs → slice_get xs i ≡ Some p → slice_get xs j ≡ Some p → i ≡ j
+pub one_place : (xs : List ℕ) (i j p : ℕ) → Once xs → slice_get xs i ≡ Some p → slice_get xs j ≡ Some p → i ≡ j
 one_place xs i j p once at_i at_j = elim (cases_order i j) [
   | inl same ↦ same
   | inr rest ↦ elim rest [
@@ -67,14 +67,14 @@ pub run_once : (n k : ℕ) → Once (run n k)
 run_once n zero = tt
 run_once n (suc k) = (λ q m same. let l = run_from (suc n) k q m in let a = l.0 in omega (arith, a, same), run_once (suc n) k)
 
-run_finds : {X : Type 0} (whole : List X) (n : ℕ) (xs : List X) → ((k : ℕ) (x : X) → slice_get xs k ≡ Some x → slice_get whole (n + k) ≡ Some x) → filter_map (slice_get whole) (run n (length xs)) ≡ xs
+pub run_finds : {X : Type 0} (whole : List X) (n : ℕ) (xs : List X) → ((k : ℕ) (x : X) → slice_get xs k ≡ Some x → slice_get whole (n + k) ≡ Some x) → filter_map (slice_get whole) (run n (length xs)) ≡ xs
 run_finds whole n [] each = refl
 run_finds whole n (x ∷ xs) each =
     let here : slice_get whole n ≡ Some x = ap (slice_get whole) (omega arith) ∙ each 0 x refl in
     let rest = run_finds whole (suc n) xs (λ k y at. ap (slice_get whole) (omega arith) ∙ each (suc k) y at) in
     rw here (ap (λ l. x ∷ l) rest)
 
-look_after : {X : Type 0} (xs ys : List X) (k : ℕ) (y : X) → slice_get ys k ≡ Some y → slice_get (xs ++ ys) (length xs + k) ≡ Some y
+pub look_after : {X : Type 0} (xs ys : List X) (k : ℕ) (y : X) → slice_get ys k ≡ Some y → slice_get (xs ++ ys) (length xs + k) ≡ Some y
 look_after [] ys k y at = ap (slice_get ys) (omega arith) ∙ at
 look_after (x ∷ xs) ys k y at = ap (slice_get (x ∷ (xs ++ ys))) (let e : length (x ∷ xs) + k ≡ suc (length xs + k) = omega arith in e) ∙ look_after xs ys k y at
 
@@ -100,7 +100,7 @@ pub record IsLineOf (history : List Call) (positions line : List ℕ) : Type 0 w
   pub lawful : IsLawfulLine history line
 
 module _ (history : List Call) where
-  look_picked : (positions : List ℕ) → ((p : ℕ) → Member p positions → p < length history) → (i p : ℕ) → slice_get positions i ≡ Some p → slice_get (in_order history positions) i ≡ slice_get history p
+  pub look_picked : (positions : List ℕ) → ((p : ℕ) → Member p positions → p < length history) → (i p : ℕ) → slice_get positions i ≡ Some p → slice_get (in_order history positions) i ≡ slice_get history p
   look_picked [] within i p at = cc
   look_picked (q ∷ positions) within zero p at =
       let call = found_at history q (within q (inl refl)) in
@@ -124,14 +124,14 @@ module _ (history : List Call) where
     abbrev chosen : List Call
     chosen = in_order history positions
 
-    abbrev spelled : List ℕ → List ℕ
+    abbrev pub spelled : List ℕ → List ℕ
     spelled certificate = filter_map (slice_get positions) certificate
 
     look_none : (i : ℕ) → slice_get positions i ≡ None → slice_get chosen i ≡ None
     look_none i none = look_past chosen i (let past = none_past positions i none in let long = as_long positions within in omega (arith, past, long))
 
     -- picking twice
-    twice : (certificate : List ℕ) → in_order chosen certificate ≡ in_order history (spelled certificate)
+    pub twice : (certificate : List ℕ) → in_order chosen certificate ≡ in_order history (spelled certificate)
     twice [] = refl
     twice (i ∷ certificate) =
         elim (slice_get positions i) as (λ o. slice_get positions i ≡ o → in_order chosen (i ∷ certificate) ≡ in_order history (cons_option o (spelled certificate))) [
@@ -141,7 +141,7 @@ module _ (history : List Call) where
 
     -- ---- from a certificate to a line
 
-    spelled_once : (certificate : List ℕ) → Once certificate → Once (spelled certificate)
+    pub spelled_once : (certificate : List ℕ) → Once certificate → Once (spelled certificate)
     spelled_once certificate once =
         pairs_picked (slice_get positions) (λ (p q : ℕ). p ≢ q) (λ (p q : ℕ). p ≢ q) certificate
         (λ i j p q at_p at_q apart same. apart (one_place positions i j p distinct at_p (at_q ∙ ap Some (sym same)))) once

@@ -16,7 +16,7 @@ use Rattle.history_window.proofs.Keeping.{at_history, in_later}
 use Rattle.history_window.proofs.Lining.{lawful_to}
 
 -- no hit of acceptable calls reads what nobody put
-none_unput : (kept more : List Call) (p : ℕ) → Acceptable kept → p < length kept → ¬ IsUnput (kept ++ more) p
+pub none_unput : (kept more : List Call) (p : ℕ) → Acceptable kept → p < length kept → ¬ IsUnput (kept ++ more) p
 none_unput kept more p past less is =
     let line = past.0 in
     let a = past.1 in

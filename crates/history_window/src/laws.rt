@@ -1,8 +1,8 @@
 // Laws of windows.
 ghost use Rattle.history_window.specs.Laws.{ForgettingGoesOn, LinesAreAcceptable, StandingChains, StandingGrows, UnsettledStand, WarmingFollows, WindowStands};
-ghost use Rattle.history_window.specs.Streams.{PastStands, PiecesExclude, PiecesStand};
+ghost use Rattle.history_window.specs.Streams.{AcceptedHavePast, PastsPass, PiecesExclude, PiecesStand};
 
-use certificate_finder::sorted_spots_are_accepted;
+use certificate_finder::{keys_are_warmed_once, sorted_spots_are_accepted};
 
 /// A lawful line of all calls that agrees with time key by key makes a history acceptable.
 pub fn lines_are_acceptable()
@@ -49,7 +49,8 @@ pub fn warming_follows()
     ensures { WarmingFollows }
 {}
 
-/// What is judged with the last piece of a stream is acceptable exactly if all calls of all pieces are, with the puts that were added.
+/// At the end of the input, what is judged with the last piece of a stream is acceptable exactly if all calls that were read are, with
+/// the puts that were added.
 pub fn pieces_stand()
     ensures { PiecesStand }
 {
@@ -57,17 +58,29 @@ pub fn pieces_stand()
     warming_follows();
 }
 
-/// Calls are acceptable without recent hits and what comes later, if they are so with both.
-pub fn past_stands()
-    ensures { PastStands }
-{}
-
-/// If what is judged with the last piece is not acceptable without recent hits, then all calls of all pieces are not, whatever comes
-/// later.
+/// If what is judged with the last piece is not acceptable, then all calls that were read are not, whatever comes later.
 pub fn pieces_exclude()
     ensures { PiecesExclude }
 {
     forgetting_goes_on();
     warming_follows();
-    past_stands();
+}
+
+/// If all calls are accepted after some deeds whose values none of their puts puts again, what is judged with the last piece is
+/// acceptable, once it is warmed. So a rejection excludes each such past.
+pub fn pasts_pass()
+    ensures { PastsPass }
+{
+    forgetting_goes_on();
+    warming_follows();
+    keys_are_warmed_once();
+}
+
+/// What is acceptable at the end of the input, once it is warmed, is accepted after some deeds, one write of a key at most.
+pub fn accepted_have_past()
+    ensures { AcceptedHavePast }
+{
+    forgetting_goes_on();
+    warming_follows();
+    keys_are_warmed_once();
 }

@@ -18,9 +18,9 @@ mod tables;
 mod windowing;
 
 pub use laws::{
-    forgetting_goes_on, lines_are_acceptable, past_stands, pieces_exclude, pieces_stand,
-    standing_chains, standing_grows, unsettled_stand, warming_follows, window_stands,
+    accepted_have_past, forgetting_goes_on, lines_are_acceptable, pasts_pass, pieces_exclude,
+    pieces_stand, standing_chains, standing_grows, unsettled_stand, warming_follows, window_stands,
 };
 pub use settling::unsettled;
-pub use streams::{first_before, last_end, past};
+pub use streams::{first_before, first_start, last_end, past, recent};
 pub use windowing::window;

@@ -1,10 +1,10 @@
 // What is told of the calls of a stream.
-ghost use Rattle.std.specs.Prelude.{◌≡◌, ◌<◌, ◌==◌, if◌then◌else◌, max, ◌^◌, ◌&&◌, nat_le, IfNone, IfOk, IfSome, IsSomeAnd, length, slice_get, take};
+ghost use Rattle.std.specs.Prelude.{◌≡◌, ◌<◌, ◌==◌, if◌then◌else◌, max, ◌^◌, ◌&&◌, min, nat_le, IfNone, IfOk, IfSome, IsSomeAnd, length, slice_get, take};
 ghost use Rattle.record_pages.specs.Expiry.{never};
 ghost use Rattle.trace_file.specs.Lent.{act_shown};
 ghost use Rattle.history_window.specs.Acts.{is_reading};
 ghost use Rattle.history_window.specs.Standing.{StartFrom};
-ghost use Rattle.history_window.specs.Streams.{ArePast, last_end};
+ghost use Rattle.history_window.specs.Streams.{ArePast, AreRecent, first_start, last_end};
 
 use crate::settling::list_position;
 use crate::states::is_hit;
@@ -49,6 +49,24 @@ fn later_end(latest: u64, end: u64) -> u64
     }
 }
 
+/// The first start of calls, or this stamp, if that is earlier.
+pub fn first_start(history: &History, first: u64) -> u64
+    ensures { result ≡ first_start first history.now }
+{
+    let mut earliest = first;
+    for position in 0..history.len() {
+        earliest = earlier_of(earliest, history.at(position).start);
+    }
+    earliest
+}
+
+/// The earlier of two stamps.
+fn earlier_of(one: u64, other: u64) -> u64
+    ensures { result ≡ min one other }
+{
+    if other < one { other } else { one }
+}
+
 /// The positions of all calls of a history but for the hits that ended at a stamp or later, in order. `AllocError` comes if memory was
 /// refused, and if there are more than `MAX_CALLS` calls.
 pub fn past(alloc: Global, history: &History, bound: u64) -> Result<Vec<u32>, AllocError>
@@ -63,6 +81,22 @@ pub fn past(alloc: Global, history: &History, bound: u64) -> Result<Vec<u32>, Al
         list_position(&mut kept, position as u32, stays)?;
     }
     Ok(kept)
+}
+
+/// The positions of the hits of a history that ended at a stamp or later, in order: those that `past` leaves out. It refuses as `past`
+/// does.
+pub fn recent(alloc: Global, history: &History, bound: u64) -> Result<Vec<u32>, AllocError>
+    ensures { IfOk result (λ waiting. AreRecent bound history.now waiting.items) }
+{
+    if history.len() > MAX_CALLS {
+        return Err(AllocError);
+    }
+    let mut waiting = Vec::new(alloc);
+    for position in 0..history.len() {
+        let waits = is_recent(&history.at(position), bound);
+        list_position(&mut waiting, position as u32, waits)?;
+    }
+    Ok(waiting)
 }
 
 /// Whether a call is a hit that ended at a stamp or later.

@@ -5,13 +5,13 @@ use Rattle.std.proofs.lemmas.Map.Made.{length-from_keys}
 use Rattle.std.specs.Cmp.{IsEquivalence, on_equiv}
 use Rattle.std.specs.Cmp.Lexicographic.{nat_list_eq_equiv}
 use Rattle.std.specs.HashSet.{HashSet, contains_by}
-use Rattle.std.specs.List.{IsDistinct, list_any}
+use Rattle.std.specs.List.{IsDistinct}
 use Rattle.std.specs.Set.{distinct_count, is_member, unique_keys}
 use Rattle.std.specs.Str.{bytes_eq}
 use Rattle.std.proofs.lemmas.List.{map-append}
 use Rattle.std.specs.Prelude.{slice_get}
 use Rattle.certificate_checker.proofs.public_laws.Lookups.{take_next}
-use Rattle.certificate_finder.specs.declared.witness.Witness.{Witness}
+use Rattle.judge_run.specs.declared.told_fault.ToldFault.{ToldFault}
 use Rattle.trace_file.specs.declared.call.Call.{Call}
 use Rattle.judge_run.specs.Listing.{HasKeys, keys_of}
 use Rattle.judge_run.specs.Telling.{first_position, key_at}
@@ -62,8 +62,8 @@ module _ {S : Type 0} where
       ∙ count_lent words
 
 -- the keys of one fault more
-pub keys_next : (history : List Call) (faults : List Witness) (i : ℕ) (fault : Witness) (word : List ℕ) → slice_get faults i ≡ Some fault → word ≡ key_at history (first_position fault) → keys_of history (take (i + 1) faults) ≡ keys_of history (take i faults) ++ word ∷ []
+pub keys_next : (history : List Call) (faults : List ToldFault) (i : ℕ) (fault : ToldFault) (word : List ℕ) → slice_get faults i ≡ Some fault → word ≡ key_at history (first_position fault.reason) → keys_of history (take (i + 1) faults) ≡ keys_of history (take i faults) ++ word ∷ []
 keys_next history faults i fault word found is =
     ap (keys_of history) (take_next faults i fault found)
-    ∙ map-append (λ (one : Witness). key_at history (first_position one)) (take i faults) (fault ∷ [])
+    ∙ map-append (λ (one : ToldFault). key_at history (first_position one.reason)) (take i faults) (fault ∷ [])
     ∙ ap (λ w. keys_of history (take i faults) ++ w ∷ []) (sym is)

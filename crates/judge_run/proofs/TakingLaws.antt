@@ -17,11 +17,11 @@ use Rattle.history_text.specs.declared.reading.Reading.{Reading}
 use Rattle.history_text.specs.Pieces.{GoesOn, IsFaultFrom, Progress, TakesPiece}
 use Rattle.history_text.specs.Text.{Room, Text, TextRead, calls_of, endless, no_text, read_by, text_by}
 use Rattle.history_window.specs.Standing.{StartFrom}
-use Rattle.history_window.specs.Streams.{calls_in, last_end, later_end, lines_in}
+use Rattle.history_window.specs.Streams.{IsKeptAfter, calls_in, first_start, last_end, later_end, lines_in, waiting_in}
 use Rattle.judge_run.specs.declared.forgotten.Forgotten.{Forgotten}
 use Rattle.judge_run.specs.declared.scope.Scope.{Scope}
 use Rattle.judge_run.specs.Scopes.{text_scoped}
-use Rattle.judge_run.specs.Streams.{IsBefore, IsGoing, IsReadSoFar, IsStreamFault, IsTaken, bound_after}
+use Rattle.judge_run.specs.Streams.{IsBefore, IsGoing, IsReadSoFar, IsStreamFault, IsTaken}
 
 -- ---- calls behind calls
 
@@ -79,35 +79,11 @@ before_fault scope window None line is = tt
 before_fault scope window (Some bytes) line is = inr (refl, is)
 
 -- a fault of the text that is read
-pub read_fault : (scope : Scope) (window : ℕ) (known left : Option (List ℕ)) (old : Progress) (held : Text) (bound latest : ℕ) (forgotten : Forgotten) (fault : ReadTextFault) → IsGoing scope window known left old held bound latest forgotten → IsFaultFrom left old (text_by [] [] held.callers) fault → IsStreamFault scope window known fault
-read_fault scope window known left old held bound latest forgotten (Bad bad) going is =
-    let was = going.taken in
-    bad_line scope window known left old (calls_in was.pieces ++ was.calls) (lines_in was.pieces ++ was.lines) held.callers bad was.read is
-read_fault scope window known left old held bound latest forgotten ReadFault going is = tt
-read_fault scope window known left old held bound latest forgotten OutOfMemory going is = tt
-
--- ---- stamps only grow
-
-one_later : (latest end : ℕ) (never_ends : Bool) → latest ≤ cond never_ends latest (max latest end)
-one_later latest end true = omega arith
-one_later latest end false = le-max_left latest end
-
-ends_grow : (latest : ℕ) (calls : List Call) → latest ≤ last_end latest calls
-ends_grow latest [] = omega arith
-ends_grow latest (call ∷ calls) =
-    let first = one_later latest call.end (call.end == never) in
-    let rest = ends_grow (later_end latest call) calls in
-    omega (arith, first, rest)
-
-bound_grows : (window : ℕ) (first more : List Call) → bound_after window first ≤ bound_after window (first ++ more)
-bound_grows window first more =
-    let both : last_end 0 (first ++ more) ≡ last_end (last_end 0 first) more = fold-append later_end 0 first more in
-    let most = ends_grow (last_end 0 first) more in
-    omega (arith, both, most)
-
-from_sooner : (early late : ℕ) (calls : List Call) → early ≤ late → StartFrom late calls → StartFrom early calls
-from_sooner early late calls less from =
-    member_all (λ (c : Call). early ≤ c.start) calls (λ call m. let start : late ≤ call.start = all_member (λ (c : Call). late ≤ c.start) calls call from m in omega (arith, less, start))
+pub read_fault : (scope : Scope) (window least : ℕ) (known left : Option (List ℕ)) (old : Progress) (kept : Text) (waiting : List Call) (waiting_lines : List ℕ) (bound latest : ℕ) (forgotten : Forgotten) (fault : ReadTextFault) → IsGoing scope window least known left old kept waiting waiting_lines bound latest forgotten → IsFaultFrom left old (text_by [] [] kept.callers) fault → IsStreamFault scope window known fault
+read_fault scope window least known left old kept waiting waiting_lines bound latest forgotten (Bad bad) going is =
+    bad_line scope window known left old (calls_in going.pieces) (lines_in going.pieces) kept.callers bad going.read is
+read_fault scope window least known left old kept waiting waiting_lines bound latest forgotten ReadFault going is = tt
+read_fault scope window least known left old kept waiting waiting_lines bound latest forgotten OutOfMemory going is = tt
 
 -- ---- one reading more
 
@@ -118,63 +94,50 @@ module _ (scope : Scope) (left rest : Option (List ℕ)) (old new : Progress) (c
       let alike : length piece.lines ≡ length piece.calls = ap length takes.lines_are ∙ takes.as_many ∙ sym (ap length takes.calls_are) in
       subst (λ (t : Text). length t.lines ≡ length t.calls) (sym judged_is) (alike ∙ sym (length-map piece.calls (widened scope.skew)))
 
-module _ (scope : Scope) (window : ℕ) (known left rest : Option (List ℕ)) (old new : Progress) (held piece judged : Text) (bound latest : ℕ) (forgotten : Forgotten) (going : IsGoing scope window known left old held bound latest forgotten) (takes : TakesPiece left old (text_by [] [] held.callers) rest new piece) (judged_is : judged ≡ text_scoped scope piece) where
-  abbrev was : IsTaken scope window known left old held latest forgotten
-  was = going.taken
+-- as many calls are judged as were read, and so enough
+pub enough_judged : (scope : Scope) (piece judged : Text) (before : List Call) (least most : ℕ) → judged ≡ text_scoped scope piece → before ≡ [] → length piece.calls ≡ length before + most → least ≤ most → least ≤ length judged.calls
+enough_judged scope piece judged before least most judged_is none full le =
+    let long : length judged.calls ≡ length piece.calls = ap (λ (t : Text). length t.calls) judged_is ∙ length-map piece.calls (widened scope.skew) in
+    let zero_before = ap length none in
+    omega (arith, long, zero_before, full, le)
 
-  -- what was read before
-  abbrev calls_before : List Call
-  calls_before = calls_in was.pieces ++ was.calls
+module _ (scope : Scope) (window least : ℕ) (known left rest : Option (List ℕ)) (old new : Progress) (kept : Text) (waiting : List Call) (waiting_lines : List ℕ) (piece judged : Text) (bound latest : ℕ) (forgotten : Forgotten) (going : IsGoing scope window least known left old kept waiting waiting_lines bound latest forgotten) (takes : TakesPiece left old (text_by [] [] kept.callers) rest new piece) (judged_is : judged ≡ text_scoped scope piece) where
+  read : IsReadSoFar scope known rest new (calls_in going.pieces ++ judged.calls) (lines_in going.pieces ++ judged.lines) judged.callers
+  read = subst (λ (t : Text). IsReadSoFar scope known rest new (calls_in going.pieces ++ t.calls) (lines_in going.pieces ++ t.lines) t.callers) (sym judged_is)
+      (read_on scope known left rest old new (calls_in going.pieces) (lines_in going.pieces) kept.callers piece going.read takes)
 
-  abbrev lines_before : List ℕ
-  lines_before = lines_in was.pieces ++ was.lines
-
-  read : IsReadSoFar scope known rest new (calls_before ++ judged.calls) (lines_before ++ judged.lines) judged.callers
-  read = subst (λ (t : Text). IsReadSoFar scope known rest new (calls_before ++ t.calls) (lines_before ++ t.lines) t.callers) (sym judged_is)
-      (read_on scope known left rest old new calls_before lines_before held.callers piece was.read takes)
-
-  -- calls that start at the stamp or later start at that of the last acceptance or later
-  sooner : StartFrom bound judged.calls → StartFrom (bound_after window (calls_in was.pieces)) judged.calls
-  sooner from =
-      let grows = bound_grows window (calls_in was.pieces) was.calls in
-      let is = going.bound_is in
-      let latest_is = was.latest_is in
-      from_sooner (bound_after window (calls_in was.pieces)) bound judged.calls (omega (arith, grows, is, latest_is)) from
-
-  -- the calls that are held, and after them those of the reading
-  pub taken : (text : Text) (end : ℕ) → StartFrom bound judged.calls → end ≡ last_end latest judged.calls → text ≡ text_by (held.calls ++ judged.calls) (held.lines ++ judged.lines) judged.callers → IsTaken scope window known rest new text end forgotten
-  taken text end from end_is text_is =
-      let alike = as_many scope left rest old new held.callers piece judged takes judged_is in
-      subst (λ (t : Text). IsTaken scope window known rest new t end forgotten) (sym text_is) (record {
-        pieces = was.pieces;
-        are = was.are;
-        kept = was.kept;
-        kept_lines = was.kept_lines;
-        after = was.after;
-        calls = was.calls ++ judged.calls;
-        lines = was.lines ++ judged.lines;
-        late = All-append (λ (call : Call). bound_after window (calls_in was.pieces) ≤ call.start) was.calls judged.calls was.late (sooner from);
-        latest_is = end_is ∙ ap (λ l. last_end l judged.calls) was.latest_is ∙ sym (fold-append later_end 0 calls_before judged.calls) ∙ ap (last_end 0) (append_assoc (calls_in was.pieces) was.calls judged.calls);
-        calls_are = ap (λ (cs : List Call). cs ++ judged.calls) was.calls_are ∙ append_assoc was.kept was.calls judged.calls;
-        lines_are = ap (λ (ls : List ℕ). ls ++ judged.lines) was.lines_are ∙ append_assoc was.kept_lines was.lines judged.lines;
-        as_many = length-append held.lines judged.lines ∙ ap₂ (λ m n. m + n) was.as_many alike ∙ sym (length-append held.calls judged.calls);
-        read = subst (λ (cs : List Call). IsReadSoFar scope known rest new cs (lines_in was.pieces ++ (was.lines ++ judged.lines)) judged.callers) (append_assoc (calls_in was.pieces) was.calls judged.calls)
-            (subst (λ (ls : List ℕ). IsReadSoFar scope known rest new (calls_before ++ judged.calls) ls judged.callers) (append_assoc (lines_in was.pieces) was.lines judged.lines) read);
-        counted = was.counted;
-        added = was.added;
+  -- the hits that wait, and after them the calls of the reading
+  pub taken : (text : Text) (end : ℕ) (over : Bool) → (over ≡ false → least ≤ length judged.calls) → StartFrom bound judged.calls → end ≡ last_end latest judged.calls → text ≡ text_by (waiting ++ judged.calls) (waiting_lines ++ judged.lines) judged.callers → IsTaken scope window least known rest new kept.calls kept.lines text end forgotten over
+  taken text end over enough from end_is text_is =
+      let alike = as_many scope left rest old new kept.callers piece judged takes judged_is in
+      let pieces = going.pieces in
+      subst (λ (t : Text). IsTaken scope window least known rest new kept.calls kept.lines t end forgotten over) (sym text_is) (record {
+        pieces = pieces;
+        are = going.are;
+        large = going.large;
+        after = subst (λ (b : ℕ). IsKeptAfter (first_start b (waiting_in pieces)) pieces kept.calls kept.lines) going.bound_is
+            (subst (λ (cs : List Call). IsKeptAfter (first_start bound cs) pieces kept.calls kept.lines) going.waiting_are going.after);
+        calls = judged.calls;
+        lines = judged.lines;
+        late = subst (λ (b : ℕ). StartFrom b judged.calls) going.bound_is from;
+        enough = enough;
+        latest_is = end_is ∙ ap (λ l. last_end l judged.calls) going.latest_is ∙ sym (fold-append later_end 0 (calls_in pieces) judged.calls);
+        calls_are = ap (λ (cs : List Call). cs ++ judged.calls) going.waiting_are;
+        lines_are = ap (λ (ls : List ℕ). ls ++ judged.lines) going.waiting_lines_are;
+        as_many = going.as_many;
+        asked_many = length-append waiting_lines judged.lines ∙ ap₂ (λ m n. m + n) going.waiting_many alike ∙ sym (length-append waiting judged.calls);
+        read = read;
+        counted = going.counted;
+        added = going.added;
       })
 
   -- the first call of the reading that starts too early
   pub before : (place line : ℕ) → IsSomeAnd (slice_get judged.calls place) (λ (call : Call). call.start < bound) → StartFrom bound (take place judged.calls) → slice_get judged.lines place ≡ Some line → IsBefore scope window known line
   before place line at first line_is =
       let found = some_and (slice_get judged.calls place) (λ (call : Call). call.start < bound) at in
-      let bound_is : bound ≡ bound_after window calls_before = going.bound_is ∙ ap (λ l. l - window) was.latest_is in
       record {
-        pieces = was.pieces;
-        are = was.are;
-        since = was.calls;
-        since_lines = was.lines;
-        late = was.late;
+        pieces = going.pieces;
+        are = going.are;
         calls = judged.calls;
         lines = judged.lines;
         callers = judged.callers;
@@ -185,6 +148,6 @@ module _ (scope : Scope) (window : ℕ) (known left rest : Option (List ℕ)) (o
         call = found.0;
         at = found.1;
         line_is = line_is;
-        before = subst (λ b. found.0.start < b) bound_is found.2;
-        first = subst (λ b. StartFrom b (take place judged.calls)) bound_is first;
+        before = subst (λ b. found.0.start < b) going.bound_is found.2;
+        first = subst (λ b. StartFrom b (take place judged.calls)) going.bound_is first;
       }

@@ -6,19 +6,19 @@ use Rattle.figures.specs.declared.form.Form.{Form}
 use Rattle.judge_run.specs.declared.detail.Detail.{Detail}
 use Rattle.judge_run.specs.declared.scope.Scope.{Scope}
 use Rattle.judge_run.specs.Inputs.{IsStandardInput}
-use Rattle.judge_run.specs.Runs.{AreJudged, IsHeaded, IsJudgeRun, IsJudgeRunOn, JudgedFile, JudgedInTurn, worse_of, worst_of}
+use Rattle.judge_run.specs.Runs.{AreJudged, IsHeaded, IsJudgeRun, IsJudgeRunOn, JudgedFile, JudgedInTurn, is_headed, name_in, worse_of, worst_of}
 
-module _ (form : Form) (scope : Scope) (detail : Detail) (least : ℕ) (headed : Bool) where
+module _ (form : Form) (scope : Scope) (detail : Detail) (least : ℕ) (several : Bool) where
   -- one file
-  pub one_judged : (file : List ℕ) (status : ℕ) (input left old new : Option (List ℕ)) → JudgedFile form scope detail least headed file input left old new status → AreJudged form scope detail least headed (file ∷ []) (status ∷ []) input left old new
+  pub one_judged : (file : List ℕ) (status : ℕ) (input left old new : Option (List ℕ)) → JudgedFile form scope detail least several file input left old new status → AreJudged form scope detail least several (file ∷ []) (status ∷ []) input left old new
   one_judged file status input left old new is = (left, new, is, (refl, refl))
 
-  at_end : (file : List ℕ) (status : ℕ) (input among left old between new : Option (List ℕ)) → (among ≡ input) × (between ≡ old) → JudgedFile form scope detail least headed file among left between new status → JudgedFile form scope detail least headed file input left old new status
+  at_end : (file : List ℕ) (status : ℕ) (input among left old between new : Option (List ℕ)) → (among ≡ input) × (between ≡ old) → JudgedFile form scope detail least several file among left between new status → JudgedFile form scope detail least several file input left old new status
   at_end file status input among left old between new same is =
-      subst (λ (from : Option (List ℕ)). JudgedFile form scope detail least headed file from left old new status) same.0 (subst (λ (start : Option (List ℕ)). JudgedFile form scope detail least headed file among left start new status) same.1 is)
+      subst (λ (from : Option (List ℕ)). JudgedFile form scope detail least several file from left old new status) same.0 (subst (λ (start : Option (List ℕ)). JudgedFile form scope detail least several file among left start new status) same.1 is)
 
   -- one file more
-  pub more_judged : (files : List (List ℕ)) (statuses : List ℕ) (file : List ℕ) (status : ℕ) (input among left old between new : Option (List ℕ)) → AreJudged form scope detail least headed files statuses input among old between → JudgedFile form scope detail least headed file among left between new status → AreJudged form scope detail least headed (files ++ file ∷ []) (statuses ++ status ∷ []) input left old new
+  pub more_judged : (files : List (List ℕ)) (statuses : List ℕ) (file : List ℕ) (status : ℕ) (input among left old between new : Option (List ℕ)) → AreJudged form scope detail least several files statuses input among old between → JudgedFile form scope detail least several file among left between new status → AreJudged form scope detail least several (files ++ file ∷ []) (statuses ++ status ∷ []) input left old new
   more_judged [] [] file status input among left old between new are is =
       (left, new, at_end file status input among left old between new are is, (refl, refl))
   more_judged [] (s ∷ statuses) file status input among left old between new are is = absurd are
@@ -31,8 +31,8 @@ fold_more [] worst status = refl
 fold_more (s ∷ statuses) worst status = fold_more statuses (worse_of worst s) status
 
 -- a file whose name was not written
-pub unheaded : (form : Form) (scope : Scope) (detail : Detail) (least : ℕ) (headed : Bool) (file : List ℕ) (input left old new : Option (List ℕ)) (status : ℕ) → headed ≡ false → IsJudgeRun form scope detail least old new status → (IsStandardInput file → IsJudgeRunOn form scope input detail least old new status) → (¬ IsStandardInput file → left ≡ input) → JudgedFile form scope detail least headed file input left old new status
-unheaded form scope detail least headed file input left old new status none judged standard unread = record {
+pub unheaded : (form : Form) (scope : Scope) (detail : Detail) (least : ℕ) (several : Bool) (file : List ℕ) (input left old new : Option (List ℕ)) (status : ℕ) → is_headed form several ≡ false → IsJudgeRun form scope detail (name_in form several file) least old new status → (IsStandardInput file → IsJudgeRunOn form scope input detail (name_in form several file) least old new status) → (¬ IsStandardInput file → left ≡ input) → JudgedFile form scope detail least several file input left old new status
+unheaded form scope detail least several file input left old new status none judged standard unread = record {
   begun = old;
   head = λ _. rw none refl;
   judged = judged;
@@ -41,8 +41,8 @@ unheaded form scope detail least headed file input left old new status none judg
 }
 
 -- one whose name was written first
-pub headed_file : (form : Form) (scope : Scope) (detail : Detail) (least : ℕ) (headed : Bool) (file : List ℕ) (input left old begun new : Option (List ℕ)) (status : ℕ) → headed ≡ true → IsHeaded true file old begun → IsJudgeRun form scope detail least begun new status → (IsStandardInput file → IsJudgeRunOn form scope input detail least begun new status) → (¬ IsStandardInput file → left ≡ input) → JudgedFile form scope detail least headed file input left old new status
-headed_file form scope detail least headed file input left old begun new status is head judged standard unread = record {
+pub headed_file : (form : Form) (scope : Scope) (detail : Detail) (least : ℕ) (several : Bool) (file : List ℕ) (input left old begun new : Option (List ℕ)) (status : ℕ) → is_headed form several ≡ true → IsHeaded true file old begun → IsJudgeRun form scope detail (name_in form several file) least begun new status → (IsStandardInput file → IsJudgeRunOn form scope input detail (name_in form several file) least begun new status) → (¬ IsStandardInput file → left ≡ input) → JudgedFile form scope detail least several file input left old new status
+headed_file form scope detail least several file input left old begun new status is head judged standard unread = record {
   begun = begun;
   head = λ _. rw is head;
   judged = judged;
@@ -51,8 +51,8 @@ headed_file form scope detail least headed file input left old begun new status 
 }
 
 -- one whose name could not be written
-pub no_head : (form : Form) (scope : Scope) (detail : Detail) (least : ℕ) (headed : Bool) (file : List ℕ) (input old new : Option (List ℕ)) (status : ℕ) → status ≡ 3 → JudgedFile form scope detail least headed file input input old new status
-no_head form scope detail least headed file input old new status is = record {
+pub no_head : (form : Form) (scope : Scope) (detail : Detail) (least : ℕ) (several : Bool) (file : List ℕ) (input old new : Option (List ℕ)) (status : ℕ) → status ≡ 3 → JudgedFile form scope detail least several file input input old new status
+no_head form scope detail least several file input old new status is = record {
   begun = new;
   head = λ other. absurd (other is);
   judged = λ other. absurd (other is);
@@ -60,24 +60,24 @@ no_head form scope detail least headed file input old new status is = record {
   unread = λ _. refl;
 }
 
-module _ (form : Form) (scope : Scope) (detail : Detail) (least : ℕ) (headed : Bool) (first : List ℕ) where
-  pub first_turn : (status : ℕ) (input left old new : Option (List ℕ)) → JudgedFile form scope detail least headed first input left old new status → JudgedInTurn form scope detail least headed (first ∷ []) input left old new status
+module _ (form : Form) (scope : Scope) (detail : Detail) (least : ℕ) (several : Bool) (first : List ℕ) where
+  pub first_turn : (status : ℕ) (input left old new : Option (List ℕ)) → JudgedFile form scope detail least several first input left old new status → JudgedInTurn form scope detail least several (first ∷ []) input left old new status
   first_turn status input left old new is = record {
     statuses = status ∷ [];
-    are = one_judged form scope detail least headed first status input left old new is;
+    are = one_judged form scope detail least several first status input left old new is;
     status_is = refl;
   }
 
-  grown : (files : List (List ℕ)) (statuses : List ℕ) (worst : ℕ) (file : List ℕ) (status : ℕ) (input among left old between new : Option (List ℕ)) → AreJudged form scope detail least headed (first ∷ files) statuses input among old between → worst ≡ worst_of statuses → JudgedFile form scope detail least headed file among left between new status → JudgedInTurn form scope detail least headed (first ∷ (files ++ file ∷ [])) input left old new (worse_of worst status)
+  grown : (files : List (List ℕ)) (statuses : List ℕ) (worst : ℕ) (file : List ℕ) (status : ℕ) (input among left old between new : Option (List ℕ)) → AreJudged form scope detail least several (first ∷ files) statuses input among old between → worst ≡ worst_of statuses → JudgedFile form scope detail least several file among left between new status → JudgedInTurn form scope detail least several (first ∷ (files ++ file ∷ [])) input left old new (worse_of worst status)
   grown files [] worst file status input among left old between new are is judged = absurd are
   grown files (s ∷ statuses) worst file status input among left old between new are is judged = record {
     statuses = s ∷ (statuses ++ status ∷ []);
-    are = more_judged form scope detail least headed (first ∷ files) (s ∷ statuses) file status input among left old between new are judged;
+    are = more_judged form scope detail least several (first ∷ files) (s ∷ statuses) file status input among left old between new are judged;
     status_is = ap (λ w. worse_of w status) is ∙ sym (fold_more statuses s status);
   }
 
   -- one turn more
-  pub next_turn : (others : List (List ℕ)) (place : ℕ) (file : List ℕ) (worst : ℕ) (status : ℕ) (input among left old between new : Option (List ℕ)) → place < length others → file ≡ get_or others place file → JudgedInTurn form scope detail least headed (first ∷ take place others) input among old between worst → JudgedFile form scope detail least headed file among left between new status → JudgedInTurn form scope detail least headed (first ∷ take (place + 1) others) input left old new (worse_of worst status)
+  pub next_turn : (others : List (List ℕ)) (place : ℕ) (file : List ℕ) (worst : ℕ) (status : ℕ) (input among left old between new : Option (List ℕ)) → place < length others → file ≡ get_or others place file → JudgedInTurn form scope detail least several (first ∷ take place others) input among old between worst → JudgedFile form scope detail least several file among left between new status → JudgedInTurn form scope detail least several (first ∷ take (place + 1) others) input left old new (worse_of worst status)
   next_turn others place file worst status input among left old between new less is turn judged =
       let more : take (place + 1) others ≡ take place others ++ file ∷ [] = take_more others place file less ∙ ap (λ (f : List ℕ). take place others ++ f ∷ []) (sym is) in
-      subst (λ (files : List (List ℕ)). JudgedInTurn form scope detail least headed (first ∷ files) input left old new (worse_of worst status)) (sym more) (grown (take place others) turn.statuses worst file status input among left old between new turn.are turn.status_is judged)
+      subst (λ (files : List (List ℕ)). JudgedInTurn form scope detail least several (first ∷ files) input left old new (worse_of worst status)) (sym more) (grown (take place others) turn.statuses worst file status input among left old between new turn.are turn.status_is judged)

@@ -1,5 +1,5 @@
 -- A text that is warmed has as many lines as calls.
-use Rattle.std.proofs.Common.{◌≡◌, ◌∙◌, ◌<◌, ◌+◌, ℕ, List, [], ◌∷◌, ◌++◌, Some, All, ap, arith, length, refl, slice_get, suc, filter_map}
+use Rattle.std.proofs.Common.{◌≡◌, ◌∙◌, ◌<◌, ℕ, List, [], ◌∷◌, ◌++◌, Some, All, ap, arith, length, refl, slice_get, suc, sym, zero, filter_map}
 use Rattle.std.proofs.lemmas.List.{length-append, length-map}
 use Rattle.std.proofs.lemmas.Option.{slice_get-get_or}
 use Rattle.trace_file.specs.declared.call.Call.{Call}
@@ -44,3 +44,15 @@ pub puts_count : (history : List Call) (warm : Warmed) → IsWarmed history warm
 puts_count history warm is =
     length-map (filter_map (slice_get history) warm.hits.items) warm_put
     ∙ as_many_there history warm.hits.items (λ k d lt. let unput = (is.hits.each k d lt).unput in (unput.call, unput.at))
+
+-- ---- calls at positions have as many lines
+
+there : {A : Type 0} (xs : List A) (i : ℕ) → i < length xs → (x : A) × (slice_get xs i ≡ Some x)
+there [] i less = absurd (omega (arith, less))
+there (x ∷ xs) zero less = (x, refl)
+there (x ∷ xs) (suc i) less = there xs i (omega (arith, less))
+
+pub picked_many : {A B : Type 0} (xs : List A) (ys : List B) (positions : List ℕ) → length xs ≡ length ys → All (λ p. p < length ys) positions → length (filter_map (slice_get xs) positions) ≡ length (filter_map (slice_get ys) positions)
+picked_many xs ys positions same below =
+    as_many_there xs positions (λ k d lt. let less = below k d lt in there xs _ (omega (arith, same, less)))
+    ∙ sym (as_many_there ys positions (λ k d lt. there ys _ (below k d lt)))

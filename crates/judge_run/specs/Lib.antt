@@ -17,7 +17,6 @@ pub mod VerdictText
 pub mod FoundRows
 pub mod ReasonRows
 pub mod Listing
-pub mod Lateness
 pub mod Objects
 pub mod FaultsTold
 pub mod CallObjects

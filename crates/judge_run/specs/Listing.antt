@@ -1,5 +1,5 @@
--- All faults of a history that is rejected, each as a reason.
-use Rattle.std.specs.Prelude.{◌≡◌, ℕ, List, ◌++◌, map}
+-- All faults of a history that is rejected, as they are told.
+use Rattle.std.specs.Prelude.{◌≡◌, ℕ, List, ◌++◌, map, None}
 use Rattle.std.specs.HashSet.{HashSet, contains_by}
 use Rattle.std.specs.Set.{distinct_count, is_member}
 use Rattle.std.specs.Str.{bytes_eq}
@@ -13,40 +13,45 @@ use Rattle.certificate_finder.specs.declared.witness.Witness.TheVariants.{Interv
 use Rattle.certificate_finder.specs.Faults.{AreFaults}
 use Rattle.judge_run.specs.declared.fault_key.FaultKey.{FaultKey}
 use Rattle.judge_run.specs.declared.fault_list.FaultList.{FaultList}
+use Rattle.judge_run.specs.declared.told_fault.ToldFault.{ToldFault}
 use Rattle.judge_run.specs.Telling.{first_position, key_at}
 
--- a call that ends before it starts, as a reason
-abbrev pub reversed_reason : ℕ → Witness
-reversed_reason call = Interval call
+-- a fault with no time
+abbrev pub timeless : Witness → ToldFault
+timeless reason = record { reason = reason; late = None }
 
--- a hit that can have read no put, as a reason
-abbrev pub hit_reason : WrongHit → Witness
-hit_reason wrong = Hit wrong.hit wrong.puts
+-- a call that ends before it starts, as it is told
+abbrev pub reversed_fault : ℕ → ToldFault
+reversed_fault call = timeless (Interval call)
 
--- crossed writes, as a reason
-abbrev pub crossed_reason : CrossedWrites → Witness
-crossed_reason writes = Crossed writes.one writes.other
+-- a hit that can have read no put, as it is told
+abbrev pub hit_fault : WrongHit → ToldFault
+hit_fault wrong = record { reason = Hit wrong.hit wrong.puts; late = wrong.late }
 
--- a hit that would cross two writes whichever of several puts it read, as a reason
-abbrev pub unread_reason : UnreadHit → Witness
-unread_reason unread = Unread unread
+-- crossed writes, as they are told
+abbrev pub crossed_fault : CrossedWrites → ToldFault
+crossed_fault writes = timeless (Crossed writes.one writes.other)
 
--- faults as reasons: the calls that end before they start, the wrong hits, the crossed writes of each key, and the hits that would cross two writes whichever of several puts they read
-abbrev pub reasons_of : Faults → List Witness
-reasons_of faults = map reversed_reason faults.reversed.items ++ (map hit_reason faults.hits.items ++ (map crossed_reason faults.crossed.items ++ map unread_reason faults.unread.items))
+-- a hit that would cross two writes whichever of several puts it read, as it is told
+abbrev pub unread_fault : UnreadHit → ToldFault
+unread_fault unread = timeless (Unread unread)
 
--- these are all faults of a history
-pub record AreListed (history : List Call) (faults : List Witness) : Type 0 where
+-- faults as they are told: the calls that end before they start, the wrong hits, the crossed writes of each key, and the hits that would cross two writes whichever of several puts they read
+abbrev pub told_of : Faults → List ToldFault
+told_of found = map reversed_fault found.reversed.items ++ (map hit_fault found.hits.items ++ (map crossed_fault found.crossed.items ++ map unread_fault found.unread.items))
+
+-- these are all faults of a history. Of the puts of a hit the first eight are shown, and how late it is is by all of them
+pub record AreListed (history : List Call) (faults : List ToldFault) : Type 0 where
   pub found : Faults
-  pub are : AreFaults history found
-  pub faults_are : faults ≡ reasons_of found
+  pub are : AreFaults history 8 found
+  pub faults_are : faults ≡ told_of found
 
 -- the keys that faults are about
-abbrev pub keys_of : List Call → List Witness → List (List ℕ)
-keys_of history faults = map (λ fault. key_at history (first_position fault)) faults
+abbrev pub keys_of : List Call → List ToldFault → List (List ℕ)
+keys_of history faults = map (λ (fault : ToldFault). key_at history (first_position fault.reason)) faults
 
 -- how many keys faults are about
-abbrev pub key_count : List Call → List Witness → ℕ
+abbrev pub key_count : List Call → List ToldFault → ℕ
 key_count history faults = distinct_count bytes_eq (keys_of history faults)
 
 -- a set has these keys, and no other one

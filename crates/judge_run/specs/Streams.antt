@@ -1,5 +1,5 @@
 -- What is judged of a text that is read as a stream.
-use Rattle.std.specs.Prelude.{◌≡◌, ◌≢◌, ◌↔◌, ◌⊎◌, ℕ, ◌+◌, ◌-◌, ◌<◌, Bool, true, false, List, [], ◌∷◌, ◌++◌, IfSome, length, map, take, slice_get, Option, Some, None, Err, unwrap_or}
+use Rattle.std.specs.Prelude.{◌≡◌, ◌≢◌, ◌↔◌, ◌⊎◌, ℕ, ◌+◌, ◌<◌, ◌≤◌, All, Bool, true, false, List, [], ◌∷◌, ◌++◌, IfSome, length, map, take, slice_get, Option, Some, None, Err, unwrap_or}
 use Rattle.std.specs.Io.KnownBytes.{IsAtEnd}
 use Rattle.trace_file.specs.declared.call.Call.{Call}
 use Rattle.clock_skew.specs.Widening.{widened}
@@ -11,11 +11,10 @@ use Rattle.history_text.specs.Outcome.{IsFaultOf, Left}
 use Rattle.history_text.specs.Pieces.{GoesOn, IsFaultFrom, Progress}
 use Rattle.history_text.specs.Text.{Text, calls_of, endless, no_text, read_by, text_by}
 use Rattle.history_window.specs.Standing.{Acceptable, StartFrom}
-use Rattle.certificate_checker.specs.Orders.{in_order}
 use Rattle.certificate_finder.specs.declared.found.Found.{Found}
 use Rattle.certificate_finder.specs.declared.found.Found.TheVariants as verdicts
 use Rattle.certificate_finder.specs.Finding.{IfRejected, IsFound}
-use Rattle.history_window.specs.Streams.{ArePast, ArePieces, IsKeptAfter, Piece, all_in, calls_in, judged_in, judged_lines, last_end, lines_in, lines_of, puts_in}
+use Rattle.history_window.specs.Streams.{ArePieces, IsKeptAfter, IsLastOf, Piece, added_in, bound_after, calls_in, decided_in, first_start, judged_in, judged_lines, last_end, lines_in, puts_in, waiting_in, waiting_lines_in}
 use Rattle.judge_run.specs.declared.extent.Extent.{Extent}
 use Rattle.judge_run.specs.declared.forgotten.Forgotten.{Forgotten}
 use Rattle.judge_run.specs.declared.kinds.CountedKind.{CountedKind}
@@ -56,52 +55,61 @@ abbrev pub added_if : Bool → List Call → Option ℕ
 added_if true puts = Some (length puts)
 added_if false puts = None
 
--- the stamp at which calls that come after these have to start, or later
-abbrev pub bound_after : ℕ → List Call → ℕ
-bound_after window calls = last_end 0 calls - window
+-- each piece has so many calls, or more
+abbrev pub AreLarge : ℕ → List Piece → Type 0
+AreLarge least pieces = All (λ piece. least ≤ length piece.calls) pieces
 
--- this is held of a stream: what was kept at the last acceptance, which was of these pieces, and after it all calls that were read since then. Those start at the stamp of that acceptance or later
-pub record IsTaken (scope : Scope) (window : ℕ) (known left : Option (List ℕ)) (progress : Progress) (held : Text) (latest : ℕ) (forgotten : Forgotten) : Type 0 where
+-- this is held of a stream between two readings: what is kept of all that was judged, and the hits that wait. The calls that are read next have to start at this stamp or later
+pub record IsGoing (scope : Scope) (window least : ℕ) (known left : Option (List ℕ)) (progress : Progress) (kept : Text) (waiting : List Call) (waiting_lines : List ℕ) (bound latest : ℕ) (forgotten : Forgotten) : Type 0 where
   pub pieces : List Piece
   pub are : ArePieces window scope.warm pieces
-  pub kept : List Call
-  pub kept_lines : List ℕ
-  pub after : IsKeptAfter (bound_after window (calls_in pieces)) pieces kept kept_lines
+  pub large : AreLarge least pieces
+  pub after : IsKeptAfter (first_start bound waiting) pieces kept.calls kept.lines
+  pub waiting_are : waiting ≡ waiting_in pieces
+  pub waiting_lines_are : waiting_lines ≡ waiting_lines_in pieces
+  pub bound_is : bound ≡ bound_after window (calls_in pieces)
+  pub latest_is : latest ≡ last_end 0 (calls_in pieces)
+  pub as_many : length kept.lines ≡ length kept.calls
+  pub waiting_many : length waiting_lines ≡ length waiting
+  pub read : IsReadSoFar scope known left progress (calls_in pieces) (lines_in pieces) kept.callers
+  pub counted : AreCounted forgotten (decided_in pieces) kept.calls
+  pub added : forgotten.added ≡ puts_in pieces
+
+-- a piece was read: what is kept is the same, and the piece's calls stand after the hits that wait. Fewer calls than wanted were read only if the input is over
+pub record IsTaken (scope : Scope) (window least : ℕ) (known left : Option (List ℕ)) (progress : Progress) (kept : List Call) (kept_lines : List ℕ) (asked : Text) (latest : ℕ) (forgotten : Forgotten) (over : Bool) : Type 0 where
+  pub pieces : List Piece
+  pub are : ArePieces window scope.warm pieces
+  pub large : AreLarge least pieces
+  pub after : IsKeptAfter (first_start (bound_after window (calls_in pieces)) (waiting_in pieces)) pieces kept kept_lines
   pub calls : List Call
   pub lines : List ℕ
   pub late : StartFrom (bound_after window (calls_in pieces)) calls
+  pub enough : over ≡ false → least ≤ length calls
   pub latest_is : latest ≡ last_end 0 (calls_in pieces ++ calls)
-  pub calls_are : held.calls ≡ kept ++ calls
-  pub lines_are : held.lines ≡ kept_lines ++ lines
-  pub as_many : length held.lines ≡ length held.calls
-  pub read : IsReadSoFar scope known left progress (calls_in pieces ++ calls) (lines_in pieces ++ lines) held.callers
-  pub counted : AreCounted forgotten (all_in pieces) kept
+  pub calls_are : asked.calls ≡ waiting_in pieces ++ calls
+  pub lines_are : asked.lines ≡ waiting_lines_in pieces ++ lines
+  pub as_many : length kept_lines ≡ length kept
+  pub asked_many : length asked.lines ≡ length asked.calls
+  pub read : IsReadSoFar scope known left progress (calls_in pieces ++ calls) (lines_in pieces ++ lines) asked.callers
+  pub counted : AreCounted forgotten (decided_in pieces) kept
   pub added : forgotten.added ≡ puts_in pieces
 
--- the same between two readings: the calls that are read next have to start at this stamp or later
-pub record IsGoing (scope : Scope) (window : ℕ) (known left : Option (List ℕ)) (progress : Progress) (held : Text) (bound latest : ℕ) (forgotten : Forgotten) : Type 0 where
-  pub taken : IsTaken scope window known left progress held latest forgotten
-  pub bound_is : bound ≡ latest - window
-
--- these calls were read after all of earlier readings, and the one on a line is the first of them that starts before the stamp that those give
+-- these calls were read after all of earlier pieces, and the one on a line is the first of them that starts before the stamp that those give
 pub record IsBefore (scope : Scope) (window : ℕ) (known : Option (List ℕ)) (line : ℕ) : Type 0 where
   pub pieces : List Piece
   pub are : ArePieces window scope.warm pieces
-  pub since : List Call
-  pub since_lines : List ℕ
-  pub late : StartFrom (bound_after window (calls_in pieces)) since
   pub calls : List Call
   pub lines : List ℕ
   pub callers : List (List ℕ)
   pub left : Option (List ℕ)
   pub progress : Progress
-  pub read : IsReadSoFar scope known left progress ((calls_in pieces ++ since) ++ calls) ((lines_in pieces ++ since_lines) ++ lines) callers
+  pub read : IsReadSoFar scope known left progress (calls_in pieces ++ calls) (lines_in pieces ++ lines) callers
   pub place : ℕ
   pub call : Call
   pub at : slice_get calls place ≡ Some call
   pub line_is : slice_get lines place ≡ Some line
-  pub before : call.start < bound_after window (calls_in pieces ++ since)
-  pub first : StartFrom (bound_after window (calls_in pieces ++ since)) (take place calls)
+  pub before : call.start < bound_after window (calls_in pieces)
+  pub first : StartFrom (bound_after window (calls_in pieces)) (take place calls)
 
 -- from the beginning of some reading on there are more calls than a history may have: the bad line is that of the first one too many
 pub record AreTooMany (scope : Scope) (known : Option (List ℕ)) (bad : BadLine) : Type 0 where
@@ -125,48 +133,55 @@ IsStreamFault scope window known (Bad bad) =
 IsStreamFault scope window known ReadFault = Unit {0}
 IsStreamFault scope window known OutOfMemory = Unit {0}
 
--- a piece was judged, the last one of these: its calls, which are all since the last acceptance, with what was kept before them, and the puts that were added
-pub record IsJudgedLast (scope : Scope) (window : ℕ) (known left : Option (List ℕ)) (progress : Progress) (judged : Text) (latest : ℕ) (forgotten : Forgotten) (from_start : Option ℕ) : Type 0 where
+-- the last piece was judged: what was kept before it, all calls that are decided with it, and the puts that were added. More may come or not. Every piece has so many calls or more, but for one at whose end the input is over
+pub record IsJudgedLast (scope : Scope) (window least : ℕ) (unended : Bool) (known left : Option (List ℕ)) (progress : Progress) (judged : Text) (waiting : List Call) (waiting_lines : List ℕ) (latest : ℕ) (forgotten : Forgotten) (from_start : Option ℕ) : Type 0 where
   pub last : Piece
   pub earlier : List Piece
-  pub are : ArePieces window scope.warm (last ∷ earlier)
+  pub are : IsLastOf window scope.warm unended last earlier
+  pub large : AreLarge least earlier
+  pub enough : unended ≡ true → least ≤ length last.calls
   pub latest_is : latest ≡ last_end 0 (calls_in (last ∷ earlier))
   pub calls_are : judged.calls ≡ judged_in last
   pub lines_are : judged.lines ≡ judged_lines last
+  pub waiting_are : waiting ≡ last.waiting
+  pub waiting_lines_are : waiting_lines ≡ last.waiting_lines
   pub as_many : length judged.lines ≡ length judged.calls
-  pub own_many : length (last.kept_lines ++ last.lines) ≡ length (last.kept ++ last.calls)
+  pub waiting_many : length waiting_lines ≡ length waiting
   pub read : IsReadSoFar scope known left progress (calls_in (last ∷ earlier)) (lines_in (last ∷ earlier)) judged.callers
   pub added : from_start ≡ added_if scope.warm last.puts
-  pub counted : AreCounted forgotten (all_in (last ∷ earlier)) (judged_in last)
+  pub counted : AreCounted forgotten (decided_in (last ∷ earlier)) (judged_in last)
   pub added_before : forgotten.added ≡ puts_in earlier
 
--- all calls that were judged are told. They are acceptable exactly if all calls of all pieces are, with the puts that were added. If it was decided whether they are, all was read
-pub record IsToldWhole (known left : Option (List ℕ)) (decided : Bool) (last : Piece) (earlier : List Piece) (told : Text) : Type 0 where
-  pub calls_are : told.calls ≡ judged_in last
-  pub lines_are : told.lines ≡ judged_lines last
-  pub stand : Acceptable told.calls ↔ Acceptable (all_in (last ∷ earlier))
-  pub ended : decided ≡ true → IfSome known (λ _. IsAtEnd left)
+-- the input is over: what was judged is acceptable exactly if all calls that were read are, with the puts that were added
+pub record IsToldWhole (known left : Option (List ℕ)) (last : Piece) (earlier : List Piece) (told : Text) : Type 0 where
+  pub stand : Acceptable told.calls ↔ Acceptable (calls_in (last ∷ earlier) ++ added_in (last ∷ earlier))
+  pub ended : IfSome known (λ _. IsAtEnd left)
 
--- the calls that were judged are told without recent hits, and not as accepted. If they are not acceptable, all calls of all pieces are not, with the puts that were added, whatever comes later
-pub record IsToldPast (window : ℕ) (accepted : Bool) (last : Piece) (earlier : List Piece) (told : Text) : Type 0 where
-  pub past : List ℕ
-  pub are : ArePast (bound_after window (calls_in (last ∷ earlier))) (judged_in last) past
-  pub calls_are : told.calls ≡ in_order (judged_in last) past
-  pub lines_are : told.lines ≡ lines_of (judged_lines last) past
+-- more may come, and what was judged is not accepted. If that was decided, the calls that were read are not acceptable, with the puts that were added, whatever comes later
+pub record IsToldPast (window : ℕ) (accepted decided : Bool) (last : Piece) (earlier : List Piece) : Type 0 where
   pub unaccepted : accepted ≡ false
-  pub excluded : ¬ Acceptable told.calls → (later : List Call) → StartFrom (bound_after window (calls_in (last ∷ earlier))) later → ¬ Acceptable (all_in (last ∷ earlier) ++ later)
+  pub excluded : decided ≡ true → (later : List Call) → StartFrom (bound_after window (calls_in (last ∷ earlier))) later → ¬ Acceptable ((calls_in (last ∷ earlier) ++ later) ++ added_in (last ∷ earlier))
 
--- the calls of a text that is read as a stream are told, by whether they were accepted and whether that was decided. All of those that were judged with the last piece are, or, if more may come, they are rejected without recent hits
-pub record IsStreamed (scope : Scope) (window : ℕ) (known : Option (List ℕ)) (accepted decided : Bool) (told : Text) (extent : Extent) : Type 0 where
+-- what is told says so much of all calls
+abbrev pub IsToldOf : Bool → ℕ → Bool → Bool → Option (List ℕ) → Option (List ℕ) → Piece → List Piece → Text → Type 0
+IsToldOf true window accepted decided known left last earlier told = IsToldPast window accepted decided last earlier
+IsToldOf false window accepted decided known left last earlier told = IsToldWhole known left last earlier told
+
+-- the calls of a text that is read as a stream are told, those that were judged with the last piece, by whether they were accepted and whether that was decided. Of each kind, all calls are those that are told and those that count as forgotten, with the hits that still wait
+pub record IsStreamed (scope : Scope) (window least : ℕ) (known : Option (List ℕ)) (accepted decided : Bool) (told : Text) (extent : Extent) : Type 0 where
+  pub unended : Bool
   pub left : Option (List ℕ)
   pub progress : Progress
-  pub judged : Text
+  pub waiting : List Call
+  pub waiting_lines : List ℕ
   pub latest : ℕ
   pub forgotten : Forgotten
-  pub is : IsJudgedLast scope window known left progress judged latest forgotten extent.from_start
-  pub told_is : IsToldWhole known left decided is.last is.earlier told ⊎ IsToldPast window accepted is.last is.earlier told
-  pub callers_are : told.callers ≡ judged.callers
-  pub forgotten_is : extent.forgotten ≡ Some forgotten
+  pub is : IsJudgedLast scope window least unended known left progress told waiting waiting_lines latest forgotten extent.from_start
+  pub told_is : IsToldOf unended window accepted decided known left is.last is.earlier told
+  pub gone : Forgotten
+  pub gone_is : extent.forgotten ≡ Some gone
+  pub counted : AreCounted gone (decided_in (is.last ∷ is.earlier) ++ waiting) told.calls
+  pub added : gone.added ≡ puts_in is.earlier
   pub skipped : IsCounted scope.reading.skip_bad progress.skipped extent.skipped
 
 -- whether a certificate was found
@@ -205,10 +220,14 @@ pub record IsGrown (forgotten new : Forgotten) (before after : KindCounts) (from
   pub misses : before.misses + forgotten.misses ≡ after.misses + new.misses
   pub added : new.added ≡ forgotten.added + unwrap_or from_start 0
 
+-- the fewest calls of a piece of a text that is read as a stream, but for the last piece
+abbrev pub least_piece : ℕ
+least_piece = 65536
+
 -- what is judged of a text in a scope: all of it, as it is read whole or as a stream with a window
 abbrev pub IsJudgedBy : Option ℕ → Scope → Option (List ℕ) → Bool → Bool → Text → Extent → Type 0
 IsJudgedBy None scope known accepted decided judged extent = IsJudged scope known judged extent
-IsJudgedBy (Some window) scope known accepted decided judged extent = IsStreamed scope window known accepted decided judged extent
+IsJudgedBy (Some window) scope known accepted decided judged extent = IsStreamed scope window least_piece known accepted decided judged extent
 
 -- all was read; of a stream that is so if it was accepted
 abbrev pub IsEndedBy : Option ℕ → Bool → Option (List ℕ) → Type 0

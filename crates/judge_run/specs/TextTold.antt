@@ -34,9 +34,10 @@ use Rattle.judge_run.specs.declared.outcome.Outcome.{Outcome}
 use Rattle.judge_run.specs.declared.outcome.Outcome.TheVariants.{Accepted, Rejected, Undecided, BadLine, BadTrace}
 use Rattle.judge_run.specs.declared.rejection.Rejection.{Rejection}
 use Rattle.judge_run.specs.declared.scope.Scope.{Scope}
+use Rattle.judge_run.specs.declared.told_fault.ToldFault.{ToldFault}
 use Rattle.judge_run.specs.declared.tell_fault.TellFault.{TellFault}
 use Rattle.judge_run.specs.declared.tell_fault.TellFault.TheVariants.{OutOfMemory, ReadFault, WriteFault}
-use Rattle.judge_run.specs.Answers.{answered, begun}
+use Rattle.judge_run.specs.Answers.{answered, begun, with_file}
 use Rattle.judge_run.specs.Told.{IsBehind}
 
 -- the line of a history of this many calls that is accepted
@@ -65,12 +66,12 @@ accepted_answer form extent calls =
     answered form (accepted_text (recorded_of extent (length calls)) ++ extent_text extent) (front_rows extent calls ++ verdict_row (codes "accepted") ∷ [])
 
 -- the answer by what was found for calls, which stand on these lines and have these faults, begun
-abbrev pub found_begun : Form → List Call → List ℕ → Extent → Found → List Witness → List ℕ
+abbrev pub found_begun : Form → List Call → List ℕ → Extent → Found → List ToldFault → List ℕ
 found_begun form calls lines extent found faults =
     begun form (verdict_text calls lines extent found ++ extent_text extent) (found_rows calls lines extent found faults)
 
 -- the answer to a history that is rejected, begun
-abbrev pub rejected_begun : Form → Text → Extent → Witness → List Witness → List ℕ
+abbrev pub rejected_begun : Form → Text → Extent → Witness → List ToldFault → List ℕ
 rejected_begun form text extent witness faults = found_begun form text.calls text.lines extent (found.Rejected witness) faults
 
 -- the answer to a history of these calls with this many undecided hits
@@ -99,7 +100,7 @@ pub record RejectedTold (form : Form) (text : Text) (extent : Extent) (detail : 
   pub is : IsWitness text.calls witness
   pub reason_is : rejection.reason ≡ reason_of witness
   pub from_start : rejection.from_start.items ≡ start_lines text.lines (own_of extent (length text.calls)) witness
-  pub faults : List Witness
+  pub faults : List ToldFault
   pub are_all : AreListed text.calls faults
   pub behind : IsBehind form detail.explain (more_text (length faults) (key_count text.calls faults)) rejection (listed form detail.all text.calls text.lines (own_of extent (length text.calls)) faults (with_calls form text.calls text.lines (own_of extent (length text.calls)) witness (rejected_begun form text extent witness faults))) told
 
@@ -153,21 +154,21 @@ IsTextTold form scope known detail (Undecided hits) told = SpelledTold form scop
 IsTextTold form scope known detail (BadLine bad) told = BadTold form scope known bad told
 IsTextTold form scope known detail (BadTrace fault) told = ⊥
 
--- the report on a text was written, and nothing else
-pub record ToldText (form : Form) (scope : Scope) (known : Option (List ℕ)) (detail : Detail) (outcome : Outcome) (old new : Option (List ℕ)) : Type 0 where
+-- the report on a text was written, with the name of its file if one is given, and nothing else
+pub record ToldText (form : Form) (scope : Scope) (known : Option (List ℕ)) (detail : Detail) (file : Option (List ℕ)) (outcome : Outcome) (old new : Option (List ℕ)) : Type 0 where
   pub told : List ℕ
   pub is : IsTextTold form scope known detail outcome told
-  pub wrote : Appends old new told
+  pub wrote : Appends old new (with_file file told)
 
 -- of the report on a text a front was written, and not all of it
-pub record BeganText (form : Form) (scope : Scope) (known : Option (List ℕ)) (detail : Detail) (old new : Option (List ℕ)) : Type 0 where
+pub record BeganText (form : Form) (scope : Scope) (known : Option (List ℕ)) (detail : Detail) (file : Option (List ℕ)) (old new : Option (List ℕ)) : Type 0 where
   pub outcome : Outcome
   pub told : List ℕ
   pub is : IsTextTold form scope known detail outcome told
-  pub began : Begun old new told
+  pub began : Begun old new (with_file file told)
 
 -- if a text was not reported, or not whole, nothing was written, or a front
-abbrev pub IsTextUntold : Form → Scope → Option (List ℕ) → Detail → Option (List ℕ) → Option (List ℕ) → TellFault → Type 0
-IsTextUntold form scope known detail old new OutOfMemory = Keeps old new
-IsTextUntold form scope known detail old new ReadFault = Keeps old new
-IsTextUntold form scope known detail old new WriteFault = BeganText form scope known detail old new
+abbrev pub IsTextUntold : Form → Scope → Option (List ℕ) → Detail → Option (List ℕ) → Option (List ℕ) → Option (List ℕ) → TellFault → Type 0
+IsTextUntold form scope known detail file old new OutOfMemory = Keeps old new
+IsTextUntold form scope known detail file old new ReadFault = Keeps old new
+IsTextUntold form scope known detail file old new WriteFault = BeganText form scope known detail file old new

@@ -4,7 +4,7 @@ ghost use Rattle.judge_run.specs.Listing.{key_count};
 
 use crate::fault_key::FaultKey;
 use crate::key_word::{first_position, key_at};
-use certificate_finder::Witness;
+use crate::told_fault::ToldFault;
 use std::alloc::{AllocError, Global};
 use std::collections::HashSet;
 use std::hash::BuildHasher;
@@ -15,13 +15,13 @@ pub(crate) fn key_count<S: BuildHasher + Drop>(
     alloc: Global,
     hash_builder: S,
     history: &History,
-    faults: &[Witness],
+    faults: &[ToldFault],
 ) -> Result<usize, AllocError>
     ensures { IfOk result (λ count. count ≡ key_count history.now faults.now) }
 {
     let mut keys: HashSet<FaultKey<'_>, S> = HashSet::with_hasher(alloc, hash_builder);
     for fault in faults {
-        let bytes = key_at(history, first_position(fault));
+        let bytes = key_at(history, first_position(&fault.reason));
         keys.insert(FaultKey { bytes })?;
     }
     Ok(keys.len())

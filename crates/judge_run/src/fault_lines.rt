@@ -4,9 +4,8 @@ ghost use Rattle.std.specs.List.{flat_map};
 ghost use Rattle.judge_run.specs.FaultsTold.{fault_text, late_text};
 
 use crate::from_start::{start_lines, start_text};
-use crate::lateness::late_of;
 use crate::reason_text::reason_text;
-use certificate_finder::Witness;
+use crate::told_fault::ToldFault;
 use std::alloc::{AllocError, Global};
 use trace_file::History;
 
@@ -26,14 +25,14 @@ fn fault_text(
     history: &History,
     lines: &[u32],
     recorded: usize,
-    fault: &Witness,
+    fault: &ToldFault,
 ) -> Result<String, AllocError>
     ensures { IfOk result (λ text. string_bytes text
         ≡ fault_text history.now lines.now recorded fault.now) }
 {
-    let reason = reason_text(alloc, history, lines, fault)?;
-    let late = late_text(alloc, late_of(history, fault))?;
-    let start = start_lines(alloc, lines, recorded, fault)?;
+    let reason = reason_text(alloc, history, lines, &fault.reason)?;
+    let late = late_text(alloc, fault.late)?;
+    let start = start_lines(alloc, lines, recorded, &fault.reason)?;
     let start = start_text(alloc, &start)?;
     format!(in alloc; "fault {reason}{late}{start}\n")
 }
@@ -45,7 +44,7 @@ pub(crate) fn push_faults(
     history: &History,
     lines: &[u32],
     recorded: usize,
-    faults: &[Witness],
+    faults: &[ToldFault],
 ) -> Result<(), AllocError>
     ensures { OnOk result (string_bytes text.new
         ≡ string_bytes text.old ++ flat_map (fault_text history.now lines.now recorded) faults.now) }

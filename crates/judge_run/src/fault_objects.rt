@@ -4,10 +4,9 @@ ghost use Rattle.figures.specs.Figures.{with_rows};
 ghost use Rattle.judge_run.specs.FaultsTold.{fault_object, fault_rows, late_rows, with_faults};
 ghost use Rattle.judge_run.specs.Objects.{object_of};
 
-use crate::lateness::late_of;
 use crate::objects::tell_objects;
 use crate::telling_rows::tell_reason;
-use certificate_finder::Witness;
+use crate::told_fault::ToldFault;
 use figures::{Figure, Form};
 use std::alloc::{AllocError, Global};
 use trace_file::History;
@@ -36,13 +35,13 @@ fn tell_fault(
     history: &History,
     lines: &[u32],
     recorded: usize,
-    fault: &Witness,
+    fault: &ToldFault,
 ) -> Result<(), AllocError>
     ensures { OnOk result (string_bytes text.new
         ≡ with_rows form (string_bytes text.old) (fault_rows history.now lines.now recorded fault.now)) }
 {
-    tell_reason(alloc, form, text, history, lines, recorded, fault)?;
-    match tell_late(alloc, form, text, late_of(history, fault)) {
+    tell_reason(alloc, form, text, history, lines, recorded, &fault.reason)?;
+    match tell_late(alloc, form, text, fault.late) {
         Ok(()) => Ok(()),
         Err(refused) => Err(refused),
     }
@@ -54,7 +53,7 @@ fn fault_object(
     history: &History,
     lines: &[u32],
     recorded: usize,
-    fault: &Witness,
+    fault: &ToldFault,
 ) -> Result<String, AllocError>
     ensures { IfOk result (λ text. string_bytes text
         ≡ fault_object history.now lines.now recorded fault.now) }
@@ -79,7 +78,7 @@ fn fault_objects(
     history: &History,
     lines: &[u32],
     recorded: usize,
-    faults: &[Witness],
+    faults: &[ToldFault],
 ) -> Result<Vec<String>, AllocError>
     ensures { IfOk result (λ objects. map string_bytes objects.items
         ≡ map (fault_object history.now lines.now recorded) faults.now) }
@@ -101,7 +100,7 @@ pub(crate) fn tell_faults(
     history: &History,
     lines: &[u32],
     recorded: usize,
-    faults: &[Witness],
+    faults: &[ToldFault],
 ) -> Result<(), AllocError>
     ensures { OnOk result (string_bytes text.new
         ≡ with_faults Form.Json history.now lines.now recorded faults.now (string_bytes text.old)) }

@@ -5,7 +5,7 @@ ghost use Rattle.judge_run.specs.FaultsTold.{keys_text, listed, more_text, with_
 use crate::fault_lines::push_faults;
 use crate::fault_objects::tell_faults;
 use crate::rejection::Rejection;
-use certificate_finder::Witness;
+use crate::told_fault::ToldFault;
 use figures::Form;
 use std::alloc::{AllocError, Global};
 use trace_file::History;
@@ -18,7 +18,7 @@ fn tell_all(
     history: &History,
     lines: &[u32],
     recorded: usize,
-    faults: &[Witness],
+    faults: &[ToldFault],
 ) -> Result<(), AllocError>
     ensures { OnOk result (string_bytes text.new
         ≡ with_faults form history.now lines.now recorded faults.now (string_bytes text.old)) }
@@ -43,7 +43,7 @@ pub(crate) fn listed(
     begun: String,
     rejection: &Rejection,
     recorded: usize,
-    faults: &[Witness],
+    faults: &[ToldFault],
 ) -> Result<String, AllocError>
     ensures { IfOk result (λ text. string_bytes text
         ≡ listed form wanted rejection.now.history rejection.now.lines.items recorded faults.now

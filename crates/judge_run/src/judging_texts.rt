@@ -3,6 +3,7 @@ ghost use Rattle.std.specs.Prelude.{◌≡◌, ◌≢◌, true, false, IfOk, IfE
 ghost use Rattle.certificate_finder.specs.Finding.{IfRejected, IsFound};
 ghost use Rattle.certificate_finder.specs.Witnesses.{IsWitness};
 ghost use Rattle.history_text.specs.Text.{text_by};
+ghost use Rattle.history_text.specs.Writing.{named};
 ghost use Rattle.judge_run.specs.Listing.{IsListed};
 ghost use Rattle.judge_run.specs.Streams.{was_accepted, was_decided};
 ghost use Rattle.judge_run.specs.TextTold.{IsHistoryTold, IsTextTold, IsTextUntold, ToldText, acceptance_of, bad_answer, rejected_begun, told_accepted, told_decided};
@@ -19,6 +20,7 @@ use crate::from_start::start_lines;
 use crate::judge_report::JudgeReport;
 use crate::judged_text::JudgedText;
 use crate::judging_text::judge_text;
+use crate::named_answer::named_object;
 use crate::names::copy_names;
 use crate::outcome::Outcome;
 use crate::rejection::Rejection;
@@ -35,7 +37,7 @@ use std::io::{Read, Write};
 use trace_file::{Certificate, History, Trace, Unwritten, write_whole};
 
 /// Judges the history that a text spells in this scope, and tells its verdict in this form. If the history is rejected and that is wanted, it
-/// tells all its faults after the verdict, and then why it is rejected. It flushes nothing. The tables hash by `hash_builder`. Whoever wrote the text should not know its seed.
+/// tells all its faults after the verdict, and then why it is rejected. If a file is named, the form is an object, and its first member is that name. It flushes nothing. The tables hash by `hash_builder`. Whoever wrote the text should not know its seed.
 ///
 /// Neither a failed read nor a failed write is tried again. If memory or the reader is the fault, nothing was written.
 pub fn answer_judge<S: BuildHasher + Copy + Drop, R: Read, W: Write>(
@@ -44,19 +46,29 @@ pub fn answer_judge<S: BuildHasher + Copy + Drop, R: Read, W: Write>(
     form: Form,
     scope: Scope,
     detail: Detail,
+    file: Option<&str>,
     reader: &mut R,
     writer: &mut W,
 ) -> Result<Outcome, TellFault>
-    ensures ok { IfOk result (λ outcome. ToldText form scope (R.remaining reader.old) detail outcome
+    ensures ok { IfOk result (λ outcome. ToldText form scope (R.remaining reader.old) detail (named file.entry) outcome
         (W.contents writer.old) (W.contents writer.new)) }
-    ensures err { IfErr result (λ fault. IsTextUntold form scope (R.remaining reader.old) detail
+    ensures err { IfErr result (λ fault. IsTextUntold form scope (R.remaining reader.old) detail (named file.entry)
         (W.contents writer.old) (W.contents writer.new) fault) }
 {
     let told = match told_text(alloc, hash_builder, form, scope, detail, reader) {
         Ok(told) => told,
         Err(fault) => return Err(fault),
     };
-    match write_whole(writer, told.text.as_bytes()) {
+    let Some(name) = file else {
+        return match write_whole(writer, told.text.as_bytes()) {
+            Ok(()) => Ok(told.outcome),
+            Err(Unwritten) => Err(TellFault::WriteFault),
+        };
+    };
+    let Ok(bytes) = named_object(alloc, name, told.text.as_bytes()) else {
+        return Err(TellFault::OutOfMemory);
+    };
+    match write_whole(writer, &bytes) {
         Ok(()) => Ok(told.outcome),
         Err(Unwritten) => Err(TellFault::WriteFault),
     }

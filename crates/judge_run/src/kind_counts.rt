@@ -1,5 +1,5 @@
 // How many calls of each kind were forgotten.
-ghost use Rattle.std.specs.Prelude.{◌≡◌, ◌+◌, IfSome, unwrap_or};
+ghost use Rattle.std.specs.Prelude.{◌≡◌, ◌+◌, [], IfSome, None, unwrap_or};
 ghost use Rattle.judge_run.specs.Kinds.{counts_in};
 ghost use Rattle.judge_run.specs.Streams.{IsGrown};
 
@@ -70,4 +70,20 @@ pub(crate) fn grown(
         misses,
         added,
     })
+}
+
+/// What was forgotten, with these calls too, which wait to be judged; if 32 bits can hold each number.
+pub(crate) fn with_waiting(forgotten: Forgotten, waiting: &History) -> Option<Forgotten>
+    ensures { IfSome result (λ more. IsGrown forgotten more (counts_in waiting.now) (counts_in []) None) }
+{
+    let none = KindCounts {
+        puts: 0,
+        removals: 0,
+        hits: 0,
+        misses: 0,
+    };
+    match grown(forgotten, &counts_of(waiting), &none, None) {
+        Some(more) => Some(more),
+        None => None,
+    }
 }

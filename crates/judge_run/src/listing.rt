@@ -1,10 +1,12 @@
 // Listing all faults of a history that is rejected.
-ghost use Rattle.std.specs.Prelude.{◌≡◌, ◌++◌, IfOk, OnOk, map};
+ghost use Rattle.std.specs.Prelude.{◌≡◌, [], ◌∷◌, ◌++◌, IfOk, OnOk, map};
 ghost use Rattle.certificate_finder.specs.Finding.{IfRejected};
-ghost use Rattle.judge_run.specs.Listing.{AreListed, IsListed, crossed_reason, hit_reason, reasons_of, reversed_reason, unread_reason};
+ghost use Rattle.judge_run.specs.Listing.{IsListed, crossed_fault, hit_fault, reversed_fault, told_of, unread_fault};
 
 use crate::fault_keys::key_count;
 use crate::fault_list::FaultList;
+use crate::told_fault::ToldFault;
+use crate::told_lines::MOST_PUTS;
 use certificate_finder::{
     CrossedWrites, Faults, Found, UnreadHit, Witness, WrongHit, find_faults_with_hasher,
 };
@@ -12,70 +14,73 @@ use std::alloc::{AllocError, Global};
 use std::hash::BuildHasher;
 use trace_file::History;
 
+/// Appends a fault.
+fn add(faults: &mut Vec<ToldFault>, reason: Witness, late: Option<u64>) -> Result<(), AllocError>
+    ensures { OnOk result (faults.new.items
+        ≡ faults.old.items ++ record { reason = reason; late = late } ∷ []) }
+{
+    match faults.push(ToldFault { reason, late }) {
+        Ok(()) => Ok(()),
+        Err(_) => Err(AllocError),
+    }
+}
+
 /// Appends the calls that end before they start.
-fn add_reversed(reasons: &mut Vec<Witness>, reversed: &[u32]) -> Result<(), AllocError>
-    ensures { OnOk result (reasons.new.items ≡ reasons.old.items ++ map reversed_reason reversed.now) }
+fn add_reversed(faults: &mut Vec<ToldFault>, reversed: &[u32]) -> Result<(), AllocError>
+    ensures { OnOk result (faults.new.items ≡ faults.old.items ++ map reversed_fault reversed.now) }
 {
     for call in reversed {
-        let Ok(()) = reasons.push(Witness::Interval(*call)) else {
-            return Err(AllocError);
-        };
+        add(faults, Witness::Interval(*call), None)?;
     }
     Ok(())
 }
 
 /// Appends the wrong hits.
-fn add_hits(reasons: &mut Vec<Witness>, hits: Vec<WrongHit>) -> Result<(), AllocError>
-    ensures { OnOk result (reasons.new.items ≡ reasons.old.items ++ map hit_reason hits.items) }
+fn add_hits(faults: &mut Vec<ToldFault>, hits: Vec<WrongHit>) -> Result<(), AllocError>
+    ensures { OnOk result (faults.new.items ≡ faults.old.items ++ map hit_fault hits.items) }
 {
     for wrong in hits {
-        let Ok(()) = reasons.push(Witness::Hit(wrong.hit, wrong.puts)) else {
-            return Err(AllocError);
-        };
+        add(faults, Witness::Hit(wrong.hit, wrong.puts), wrong.late)?;
     }
     Ok(())
 }
 
 /// Appends the crossed writes.
-fn add_crossed(reasons: &mut Vec<Witness>, crossed: &[CrossedWrites]) -> Result<(), AllocError>
-    ensures { OnOk result (reasons.new.items ≡ reasons.old.items ++ map crossed_reason crossed.now) }
+fn add_crossed(faults: &mut Vec<ToldFault>, crossed: &[CrossedWrites]) -> Result<(), AllocError>
+    ensures { OnOk result (faults.new.items ≡ faults.old.items ++ map crossed_fault crossed.now) }
 {
     for writes in crossed {
-        let Ok(()) = reasons.push(Witness::Crossed(writes.one, writes.other)) else {
-            return Err(AllocError);
-        };
+        add(faults, Witness::Crossed(writes.one, writes.other), None)?;
     }
     Ok(())
 }
 
 /// Appends the hits that would cross two writes whichever of several puts they read.
-fn add_unread(reasons: &mut Vec<Witness>, hits: Vec<UnreadHit>) -> Result<(), AllocError>
-    ensures { OnOk result (reasons.new.items ≡ reasons.old.items ++ map unread_reason hits.items) }
+fn add_unread(faults: &mut Vec<ToldFault>, hits: Vec<UnreadHit>) -> Result<(), AllocError>
+    ensures { OnOk result (faults.new.items ≡ faults.old.items ++ map unread_fault hits.items) }
 {
     for unread in hits {
-        let Ok(()) = reasons.push(Witness::Unread(unread)) else {
-            return Err(AllocError);
-        };
+        add(faults, Witness::Unread(unread), None)?;
     }
     Ok(())
 }
 
-/// Faults as reasons, in their order.
-fn reasons_of(alloc: Global, faults: Faults) -> Result<Vec<Witness>, AllocError>
-    ensures { IfOk result (λ reasons. reasons.items ≡ reasons_of faults) }
+/// Faults as they are told, in their order.
+fn told_of(alloc: Global, found: Faults) -> Result<Vec<ToldFault>, AllocError>
+    ensures { IfOk result (λ told. told.items ≡ told_of found) }
 {
     let Faults {
         reversed,
         hits,
         crossed,
         unread,
-    } = faults;
-    let mut reasons = Vec::new(alloc);
-    add_reversed(&mut reasons, &reversed)?;
-    add_hits(&mut reasons, hits)?;
-    add_crossed(&mut reasons, &crossed)?;
-    add_unread(&mut reasons, unread)?;
-    Ok(reasons)
+    } = found;
+    let mut told = Vec::new(alloc);
+    add_reversed(&mut told, &reversed)?;
+    add_hits(&mut told, hits)?;
+    add_crossed(&mut told, &crossed)?;
+    add_unread(&mut told, unread)?;
+    Ok(told)
 }
 
 /// All faults of a history.
@@ -86,8 +91,8 @@ fn faults_in<S: BuildHasher + Copy + Drop>(
 ) -> Result<FaultList, AllocError>
     ensures { IfOk result (IsListed history.now) }
 {
-    let found = find_faults_with_hasher(alloc, hash_builder, history)?;
-    let faults = reasons_of(alloc, found)?;
+    let found = find_faults_with_hasher(alloc, hash_builder, history, MOST_PUTS)?;
+    let faults = told_of(alloc, found)?;
     let keys = key_count(alloc, hash_builder, history, &faults)?;
     Ok(FaultList { faults, keys })
 }

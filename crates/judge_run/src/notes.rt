@@ -1,15 +1,16 @@
 // What is said on standard error besides an answer: what it means, and what to do.
 use crate::outcome::Outcome;
+use crate::scope::Scope;
 use crate::trace_answers::offset_of;
-use history_text::BadLine;
+use history_text::{BadLine, Share};
 use std::io::Write;
 use trace_file::TraceFault;
 
-/// Tells what an answer to an input of this name means and what to do, if it does not say so itself. What `err` refuses
-/// is dropped, here and below.
-pub(crate) fn note_answer<E: Write>(err: &mut E, name: &str, outcome: &Outcome) {
+/// Tells what an answer to an input of this name, judged in this scope, means and what to do, if it does not say so itself. What `err`
+/// refuses is dropped, here and below.
+pub(crate) fn note_answer<E: Write>(err: &mut E, name: &str, scope: &Scope, outcome: &Outcome) {
     match outcome {
-        Outcome::Accepted(acceptance) => note_calls(err, name, acceptance.recorded),
+        Outcome::Accepted(acceptance) => note_calls(err, name, scope, acceptance.recorded),
         Outcome::Rejected(_) => {}
         Outcome::Undecided(hits) => note_undecided(err, name, *hits),
         Outcome::BadLine(bad) => note_bad_line(err, name, *bad),
@@ -17,12 +18,20 @@ pub(crate) fn note_answer<E: Write>(err: &mut E, name: &str, outcome: &Outcome) 
     }
 }
 
-/// Warns of an input without calls.
-fn note_calls<E: Write>(err: &mut E, name: &str, calls: usize) {
-    if calls == 0 {
-        let _ = write!(err, "{name}: warning: the input has no calls\n");
-        let _ = err.flush();
+/// Warns of an input without calls, or without calls of the keys that were asked for.
+fn note_calls<E: Write>(err: &mut E, name: &str, scope: &Scope, calls: usize) {
+    if calls > 0 {
+        return;
     }
+    let _ = if scope.reading.share == Share::ALL {
+        write!(err, "{name}: warning: the input has no calls\n")
+    } else {
+        write!(
+            err,
+            "{name}: warning: no call of the input has a key that --keys takes\n"
+        )
+    };
+    let _ = err.flush();
 }
 
 /// Tells that an accepted history has fewer calls than it has to have.

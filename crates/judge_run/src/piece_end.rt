@@ -6,8 +6,8 @@ use std::hash::BuildHasher;
 /// What comes of judging a piece.
 #[derive(Drop)]
 pub(crate) enum PieceEnd<S: BuildHasher> {
-    /// That was all: the input is over, or the calls so far are not accepted.
+    /// That was all: the input is over, or the calls that are decided are not accepted.
     Over(JudgedText<S>),
-    /// The calls so far are accepted, and the next piece is read.
+    /// The calls that are decided are accepted, and the next piece is read.
     On(Stream<S>),
 }

@@ -3,7 +3,7 @@ ghost use Rattle.std.specs.Prelude.{◌≡◌, ◌≢◌, ◌∷◌, true, IfErr
 ghost use Rattle.figures.specs.Figures.{form_of};
 ghost use Rattle.history_text.specs.Writing.{named};
 ghost use Rattle.judge_run.specs.Inputs.{IsStandardInput};
-ghost use Rattle.judge_run.specs.Runs.{IsAskedFor, IsCheckRun, IsCheckRunOn, IsHeaded, IsJudgeRun, IsJudgeRunOn, IsNotAskedFor, IsShowRun, IsShowRunOn, JudgedFile, JudgedFiles, JudgedInTurn, ShownAs, is_headed, weight_of, worse_of};
+ghost use Rattle.judge_run.specs.Runs.{IsAskedFor, IsCheckRun, IsCheckRunOn, IsHeaded, IsJudgeRun, IsJudgeRunOn, IsNotAskedFor, IsShowRun, IsShowRunOn, JudgedFile, JudgedFiles, JudgedInTurn, ShownAs, are_several, is_headed, name_in, weight_of, worse_of};
 ghost use Rattle.judge_run.specs.Ends.{IsEnded, end_of_shown, status_of};
 
 use crate::checking::answer_check;
@@ -14,6 +14,7 @@ use crate::notes::{note_answer, note_bad_trace, note_few};
 use crate::outcome::Outcome;
 use crate::requests::{CheckRequest, JudgeRequest, ShowRequest};
 use crate::saving::save;
+use crate::scope::Scope;
 use crate::showing::answer_show;
 use crate::shown::Shown;
 use crate::tell_fault::TellFault;
@@ -32,7 +33,7 @@ use trace_file::{FileName, Unwritten, write_whole};
 /// Judges the histories of the texts in files or of standard input, one after the other, and answers the status that the program ends
 /// with: of several the one that has to be noticed most. The
 /// tables have a seed of their own. Each verdict is written to `out`, followed by all faults and the reason, if
-/// that is wanted. Before it stands the name of its file, if there are several and the verdicts are lines. Then an accepted history is written to the file of its trace, the picture of a rejected one to its file, and what came of
+/// that is wanted. If there are several files, the name of its file stands before it, or first in its object. Then an accepted history is written to the file of its trace, the picture of a rejected one to its file, and what came of
 /// judging to its JUnit file, if they are wanted. What failed, and what to do about it, is written to `err`.
 pub fn run_judge<R: AllocGlobal + Files + Input + RandomSource, O: Write, E: Write>(
     rt: &R,
@@ -41,7 +42,7 @@ pub fn run_judge<R: AllocGlobal + Files + Input + RandomSource, O: Write, E: Wri
     err: &mut E,
 ) -> u8
     ensures { JudgedFiles (form_of request.now.json) request.now.scope request.now.detail
-        request.now.at_least (is_headed request.now.json request.now.others.items)
+        request.now.at_least (are_several request.now.others.items)
         (request.now.file ∷ request.now.others.items)
         (O.contents out.old) (O.contents out.new) result }
 {
@@ -57,15 +58,14 @@ pub fn judge_with<R: AllocGlobal + Files + RandomSource, I: Read, O: Write, E: W
     err: &mut E,
 ) -> u8
     ensures { JudgedInTurn (form_of request.now.json) request.now.scope request.now.detail
-        request.now.at_least (is_headed request.now.json request.now.others.items)
+        request.now.at_least (are_several request.now.others.items)
         (request.now.file ∷ request.now.others.items)
         (I.remaining stdin.old) (I.remaining stdin.new)
         (O.contents out.old) (O.contents out.new) result }
 {
-    let headed = !request.json && request.others.len() > 0;
-    let mut worst = judge_file(rt, stdin, request, &request.file, headed, out, err);
+    let mut worst = judge_file(rt, stdin, request, &request.file, out, err);
     for file in &request.others {
-        let status = judge_file(rt, stdin, request, file, headed, out, err);
+        let status = judge_file(rt, stdin, request, file, out, err);
         worst = worse_of(worst, status);
     }
     worst
@@ -95,22 +95,21 @@ fn weight_of(status: u8) -> u8
     }
 }
 
-/// Judges the history of the text in one file, after the file's name if that is wanted, and answers the status that the program
+/// Judges the history of the text in one file, after the file's name if there are several and the verdicts are lines, and answers the status that the program
 /// would end with.
 fn judge_file<R: AllocGlobal + Files + RandomSource, I: Read, O: Write, E: Write>(
     rt: &R,
     stdin: &mut I,
     request: &JudgeRequest,
     file: &FileName,
-    headed: bool,
     out: &mut O,
     err: &mut E,
 ) -> u8
     ensures { JudgedFile (form_of request.now.json) request.now.scope request.now.detail
-        request.now.at_least headed file.now (I.remaining stdin.old) (I.remaining stdin.new)
+        request.now.at_least (are_several request.now.others.items) file.now (I.remaining stdin.old) (I.remaining stdin.new)
         (O.contents out.old) (O.contents out.new) result }
 {
-    if !headed {
+    if !is_headed(request) {
         return judge_at(rt, stdin, request, file, out, err);
     }
     match write_heading(rt.alloc(), file, out) {
@@ -143,10 +142,10 @@ fn judge_at<R: AllocGlobal + Files + RandomSource, I: Read, O: Write, E: Write>(
     err: &mut E,
 ) -> u8
     ensures judged { IsJudgeRun (form_of request.now.json) request.now.scope request.now.detail
-        request.now.at_least (O.contents out.old) (O.contents out.new) result }
+        (name_in (form_of request.now.json) (are_several request.now.others.items) file.now) request.now.at_least (O.contents out.old) (O.contents out.new) result }
     ensures standard_input { IsStandardInput file.now → IsJudgeRunOn
         (form_of request.now.json) request.now.scope (I.remaining stdin.old) request.now.detail
-        request.now.at_least (O.contents out.old) (O.contents out.new) result }
+        (name_in (form_of request.now.json) (are_several request.now.others.items) file.now) request.now.at_least (O.contents out.old) (O.contents out.new) result }
     ensures unread { ¬ IsStandardInput file.now → stdin.new ≡ stdin.old }
 {
     let seed = match RandomSeed::draw(rt) {
@@ -173,7 +172,9 @@ fn judge_from<R: AllocGlobal + Files, I: Read, O: Write, E: Write>(
     err: &mut E,
 ) -> u8
     ensures { IsJudgeRunOn (form_of request.now.json) request.now.scope (I.remaining reader.old)
-        request.now.detail request.now.at_least (O.contents out.old) (O.contents out.new) result }
+        request.now.detail
+        (name_in (form_of request.now.json) (are_several request.now.others.items) file.now)
+        request.now.at_least (O.contents out.old) (O.contents out.new) result }
 {
     let form = Form::of(request.json);
     let answer = answer_judge(
@@ -182,6 +183,7 @@ fn judge_from<R: AllocGlobal + Files, I: Read, O: Write, E: Write>(
         form,
         request.scope,
         request.detail,
+        name_in(request, file),
         reader,
         out,
     );
@@ -191,8 +193,34 @@ fn judge_from<R: AllocGlobal + Files, I: Read, O: Write, E: Write>(
         junit: request.junit.as_ref(),
     };
     let least = request.at_least as usize;
-    let end = settled(rt, file, answer, &files, least, err);
+    let end = settled(rt, file, &request.scope, answer, &files, least, err);
     end.status()
+}
+
+/// Whether several files are judged.
+fn are_several(request: &JudgeRequest) -> bool
+    ensures { result ≡ are_several request.now.others.items }
+{
+    request.others.len() > 0
+}
+
+/// Whether the name of a file stands on a line before its answer: if several files are judged, and each is told by lines.
+fn is_headed(request: &JudgeRequest) -> bool
+    ensures { result ≡ is_headed (form_of request.now.json) (are_several request.now.others.items) }
+{
+    !request.json && are_several(request)
+}
+
+/// The name of a file, if it is a member of its object: if several files are judged, and each is told by an object.
+fn name_in<'a>(request: &JudgeRequest, file: &'a FileName) -> Option<&'a str>
+    ensures { named result
+        ≡ name_in (form_of request.now.json) (are_several request.now.others.items) file.now }
+{
+    if request.json && are_several(request) {
+        Some(file.as_str())
+    } else {
+        None
+    }
 }
 
 /// Judges the trace in a file or of standard input, and answers the status that the program ends with. The table has a
@@ -259,15 +287,16 @@ fn check_from<R: AllocGlobal + Files, I: Read, O: Write, E: Write>(
         picture: request.picture.as_ref(),
         junit: None,
     };
-    let end = settled(rt, &request.file, answer, &files, 0, err);
+    let end = settled(rt, &request.file, &Scope::WHOLE, answer, &files, 0, err);
     end.status()
 }
 
-/// How the program ends after an answer to the input of a file, if an accepted history has to have so many calls: what is to
+/// How the program ends after an answer to the input of a file, which was judged in this scope, if an accepted history has to have so many calls: what is to
 /// be saved is saved, and what failed is reported.
 fn settled<R: AllocGlobal + Files, E: Write>(
     rt: &R,
     file: &FileName,
+    scope: &Scope,
     answer: Result<Outcome, TellFault>,
     files: &WantedFiles<'_>,
     least: usize,
@@ -277,7 +306,7 @@ fn settled<R: AllocGlobal + Files, E: Write>(
 {
     match answer {
         Ok(outcome) => {
-            note_answer(err, input_name(file), &outcome);
+            note_answer(err, input_name(file), scope, &outcome);
             note_few(err, input_name(file), &outcome, least);
             save(rt, files, input_name(file), &outcome, least, err)
         }

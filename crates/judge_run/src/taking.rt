@@ -1,11 +1,12 @@
 // Reading a piece of a text.
-ghost use Rattle.std.specs.Prelude.{◌≡◌, ◌++◌, IfErr, IfOk, IfSome, List, ℕ, OnOk, Option, true};
+ghost use Rattle.std.specs.Prelude.{◌≡◌, ◌≤◌, ◌++◌, IfErr, IfOk, IfSome, List, ℕ, OnOk, Option, true};
 ghost use Rattle.std.specs.Io.KnownBytes.{IsAtEnd};
 ghost use Rattle.history_text.specs.Pieces.{left_of};
 ghost use Rattle.history_text.specs.Reading.{IsAhead};
 ghost use Rattle.history_text.specs.Text.{text_by};
 ghost use Rattle.judge_run.specs.Streams.{IsGoing, IsStreamFault, IsTaken};
 
+use crate::lined_calls::LinedCalls;
 use crate::scope::Scope;
 use crate::scoping::scoped;
 use crate::stream::Stream;
@@ -17,7 +18,7 @@ use std::hash::BuildHasher;
 use std::io::Read;
 use trace_file::History;
 
-/// Reads the next piece: so many calls, as many as are kept if those are more, and at least one; or what is left. The calls are
+/// Reads the next piece: so many calls, as many as are kept and wait if those are more, and at least one; or what is left. The calls are
 /// widened by the skew. One that starts before the stamp of the stream is a bad line.
 pub(crate) fn take_piece<S: BuildHasher + Drop, R: Read>(
     alloc: Global,
@@ -30,24 +31,28 @@ pub(crate) fn take_piece<S: BuildHasher + Drop, R: Read>(
     requires { IsAhead lines.old.ahead (R.remaining reader.old) }
     ensures ahead { IsAhead lines.new.ahead (R.remaining reader.new) }
     ensures taken { IfOk result (λ taken. (window : ℕ) (known : Option (List ℕ))
-        → IsGoing scope window known (left_of lines.old (R.remaining reader.old)) lines.old
+        → IsGoing scope window least known (left_of lines.old (R.remaining reader.old)) lines.old
         (text_by stream.text.history stream.text.lines.items stream.text.callers)
+        stream.waiting.history stream.waiting.lines.items
         stream.bound stream.latest stream.forgotten
-        → IsTaken scope window known (left_of lines.new (R.remaining reader.new)) lines.new
+        → IsTaken scope window least known (left_of lines.new (R.remaining reader.new)) lines.new
+        taken.kept.history taken.kept.lines.items
         (text_by taken.text.history taken.text.lines.items taken.text.callers)
-        taken.latest taken.forgotten) }
+        taken.latest taken.forgotten taken.over) }
     ensures end { IfOk result (λ taken. taken.over ≡ true → IsAtEnd (R.remaining reader.new)) }
     ensures over { IfOk result (λ taken. taken.over ≡ true
         → IfSome (left_of lines.old (R.remaining reader.old))
         (λ _. IsAtEnd (left_of lines.new (R.remaining reader.new)))) }
     ensures fault { IfErr result (λ fault. (window : ℕ) (known : Option (List ℕ))
-        → IsGoing scope window known (left_of lines.old (R.remaining reader.old)) lines.old
+        → IsGoing scope window least known (left_of lines.old (R.remaining reader.old)) lines.old
         (text_by stream.text.history stream.text.lines.items stream.text.callers)
+        stream.waiting.history stream.waiting.lines.items
         stream.bound stream.latest stream.forgotten
         → IsStreamFault scope window known fault) }
 {
     let Stream {
         text,
+        waiting,
         bound,
         latest,
         forgotten,
@@ -57,7 +62,7 @@ pub(crate) fn take_piece<S: BuildHasher + Drop, R: Read>(
         lines: places,
         callers,
     } = text;
-    let most = least.max(history.len()).max(1);
+    let most = most_of(least, &history, &waiting.history);
     let mut piece = TextHistory {
         history: History::new(alloc),
         lines: Vec::new(alloc),
@@ -74,15 +79,27 @@ pub(crate) fn take_piece<S: BuildHasher + Drop, R: Read>(
         return Err(before_window(piece.lines[late]));
     }
     let latest = last_end(&piece.history, latest);
-    let Ok(text) = joined(history, places, piece) else {
+    let Ok(text) = joined(waiting, piece) else {
         return Err(ReadTextFault::OutOfMemory);
     };
     Ok(TakenPiece {
+        kept: LinedCalls {
+            history,
+            lines: places,
+        },
         text,
         latest,
         forgotten,
         over,
     })
+}
+
+/// How many calls a piece has: so many, or as many as these if those are more, and at least one.
+fn most_of(least: usize, kept: &History, waiting: &History) -> usize
+    ensures { least ≤ result }
+{
+    let held = kept.len().saturating_add(waiting.len());
+    least.max(held).max(1)
 }
 
 /// The fault of a call on this line that starts too early.
@@ -95,15 +112,15 @@ fn before_window(line: u32) -> ReadTextFault
     })
 }
 
-/// Calls, which stand on these lines, and after them those of a text.
-fn joined<S: BuildHasher + Drop>(
-    history: History,
-    lines: Vec<u32>,
+/// Calls, and after them those of a text.
+pub(crate) fn joined<S: BuildHasher + Drop>(
+    first: LinedCalls,
     piece: TextHistory<S>,
 ) -> Result<TextHistory<S>, AllocError>
     ensures { IfOk result (λ text. text_by text.history text.lines.items text.callers
-        ≡ text_by (history ++ piece.history) (lines.items ++ piece.lines.items) piece.callers) }
+        ≡ text_by (first.history ++ piece.history) (first.lines.items ++ piece.lines.items) piece.callers) }
 {
+    let LinedCalls { history, lines } = first;
     let TextHistory {
         history: more,
         lines: places,

@@ -7,7 +7,7 @@ use certificate_finder::{CrossedWrites, Excluded, Excuse, Side, Witness};
 use std::alloc::{AllocError, Global};
 
 /// The most puts of a hit that are named.
-const MOST_PUTS: usize = 8;
+pub(crate) const MOST_PUTS: usize = 8;
 
 /// Appends a position.
 fn add(positions: &mut Vec<u32>, position: u32) -> Result<(), AllocError>

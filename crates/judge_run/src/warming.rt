@@ -83,7 +83,7 @@ fn with_lines(alloc: Global, lines: &[u32], positions: &[u32]) -> Result<Vec<u32
 }
 
 /// Appends the line of the call at a position, if there is one.
-fn add_line(all: &mut Vec<u32>, lines: &[u32], position: u32) -> Result<(), AllocError>
+pub(crate) fn add_line(all: &mut Vec<u32>, lines: &[u32], position: u32) -> Result<(), AllocError>
     ensures { OnOk result (all.new.items
         ≡ all.old.items ++ lines_at lines.now (position ∷ [])) }
 {

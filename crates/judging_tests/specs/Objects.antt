@@ -17,6 +17,7 @@ use Rattle.judge_run.specs.declared.acceptance.Acceptance.{Acceptance}
 use Rattle.judge_run.specs.Extents.{recorded_of}
 use Rattle.judge_run.specs.declared.extent.Extent.{Extent}
 use Rattle.judge_run.specs.declared.rejection.Rejection.{Rejection}
+use Rattle.judge_run.specs.declared.told_fault.ToldFault.{ToldFault}
 
 -- nothing was added to the calls of a text
 abbrev pub as_spelled : Extent
@@ -41,6 +42,6 @@ pub record IsReasonTold (rejection : Rejection) (old new : List ℕ) : Type 0 wh
   pub witness : Witness
   pub is : IsWitness rejection.history witness
   pub reason_is : rejection.reason ≡ reason_of witness
-  pub faults : List Witness
+  pub faults : List ToldFault
   pub are_all : AreListed rejection.history faults
   pub new_is : new ≡ old ++ ended Json (with_calls Json rejection.history rejection.lines.items (length rejection.history) witness (with_rows Json [] (found_rows rejection.history rejection.lines.items as_spelled (found.Rejected witness) faults)))

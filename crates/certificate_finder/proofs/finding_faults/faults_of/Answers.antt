@@ -40,9 +40,9 @@ pub returns-clause-others : goal.returns-clause-others
 returns-clause-others c =
     let reads = c.in_ok-reads.ensures in
     λ history are. record {
-      hits = wrong_hits history c.args.steps.now are c.in_ok-reads.reads.owners c.in_ok-reads.reads.wrong.items c.in_ok-hits.hits.items reads.owners reads.wrong (subst (λ ws. AreWrongAt c.args.steps.now (positions_in ws) c.in_ok-hits.hits.items) c.as_slice-wrong.ensures.value c.in_ok-hits.ensures);
+      hits = wrong_hits history c.args.steps.now are c.in_ok-reads.reads.owners c.args.most c.in_ok-reads.reads.wrong.items c.in_ok-hits.hits.items reads.owners reads.wrong (subst (λ ws. AreWrongAt c.args.steps.now c.args.most (positions_in ws) c.in_ok-hits.hits.items) c.as_slice-wrong.ensures.value c.in_ok-hits.ensures);
       crossed = crossed_writes history c.args.steps.now are c.in_ok-reads.reads.owners c.in_ok-crossed.crossed.items reads.owners (subst (λ os. AreCrossedIn c.args.steps.now os c.in_ok-crossed.crossed.items) c.as_slice-owned.ensures.value c.in_ok-crossed.ensures);
-      unread = unread_known history c.args.steps.now are c.in_ok-reads.reads.owners reads.owners c.in_ok-unread.unread.items
-          (subst (λ os. AreUnreadOf c.args.steps.now os c.in_ok-reads.reads.owners.unsure.items c.in_ok-unread.unread.items) c.as_slice-owned.ensures.value
-          (subst (λ us. AreUnreadOf c.args.steps.now c.as_slice-owned.result.now us c.in_ok-unread.unread.items) c.as_slice-doubtful.ensures.value c.in_ok-unread.ensures));
+      unread = unread_known history c.args.steps.now are c.in_ok-reads.reads.owners reads.owners c.args.most c.in_ok-unread.unread.items
+          (subst (λ os. AreUnreadOf c.args.steps.now os c.args.most c.in_ok-reads.reads.owners.unsure.items c.in_ok-unread.unread.items) c.as_slice-owned.ensures.value
+          (subst (λ us. AreUnreadOf c.args.steps.now c.as_slice-owned.result.now c.args.most us c.in_ok-unread.unread.items) c.as_slice-doubtful.ensures.value c.in_ok-unread.ensures));
     }

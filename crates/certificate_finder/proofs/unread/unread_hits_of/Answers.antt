@@ -28,6 +28,6 @@ pub unread_among-requires-clause-order : goal.unread_among-requires-clause-order
 unread_among-requires-clause-order c = subst (λ hits. AllPairs (IsEarlierBy (stamp_at End c.args.steps.now)) (positions_in hits)) (sym c.as_slice-ranked.ensures.value) c.in_ok-hits.ensures.order
 
 pub returns-in-Ok : goal.returns-in-Ok
-returns-in-Ok c = all_unread c.args.steps.now c.args.owners.now c.args.unsure.now c.in_ok-hits.hits.items c.in-Ok.found.items c.in_ok-hits.ensures
-    (subst (λ os. AreUnreadUpto c.args.steps.now os (positions_in c.in_ok-hits.hits.items) (length c.in_ok-hits.hits.items) c.in-Ok.found.items) c.in_ok-groups.ensures.owners
-    (subst (λ hits. AreUnreadUpto c.args.steps.now c.in_ok-groups.groups.owners.items (positions_in hits) (length hits) c.in-Ok.found.items) c.as_slice-ranked.ensures.value c.in-Ok.ensures))
+returns-in-Ok c = all_unread c.args.steps.now c.args.owners.now c.args.most c.args.unsure.now c.in_ok-hits.hits.items c.in-Ok.found.items c.in_ok-hits.ensures
+    (subst (λ os. AreUnreadUpto c.args.steps.now os c.args.most (positions_in c.in_ok-hits.hits.items) (length c.in_ok-hits.hits.items) c.in-Ok.found.items) c.in_ok-groups.ensures.owners
+    (subst (λ hits. AreUnreadUpto c.args.steps.now c.in_ok-groups.groups.owners.items c.args.most (positions_in hits) (length hits) c.in-Ok.found.items) c.as_slice-ranked.ensures.value c.in-Ok.ensures))

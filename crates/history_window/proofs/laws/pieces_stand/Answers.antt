@@ -1,4 +1,4 @@
-use Rattle.history_window.proofs.Pieces.{pieces_stand}
+use Rattle.history_window.proofs.Judging.{pieces_stand}
 use Rattle.history_window.proofs.laws.pieces_stand.Goals as goal
 
 pub returns : goal.returns

@@ -1,5 +1,5 @@
 -- One key more, and how many there are.
-use Rattle.std.proofs.Common.{◌≡◌, ◌∙◌, Some, ap, arith, sym, subst, take}
+use Rattle.std.proofs.Common.{◌∙◌, Some, ap, arith, sym, subst, take}
 use Rattle.std.proofs.lemmas.List.{take_all}
 use Rattle.std.proofs.lemmas.Option.{slice_get-get_or}
 use Rattle.judge_run.specs.Listing.{HasKeys, key_count, keys_of}

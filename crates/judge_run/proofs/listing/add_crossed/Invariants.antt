@@ -1,6 +1,6 @@
 use Rattle.std.proofs.Common.{◌≡◌, ◌++◌, map, take}
-use Rattle.judge_run.specs.Listing.{crossed_reason}
+use Rattle.judge_run.specs.Listing.{crossed_fault}
 use Rattle.judge_run.proofs.listing.add_crossed.Given as goal
 
 abbrev pub invariant-loop-writes : goal.invariant-loop-writes
-invariant-loop-writes l = l.reasons.items ≡ l.fn.reasons.items ++ map crossed_reason (take l.writes-index l.crossed)
+invariant-loop-writes l = l.faults.items ≡ l.fn.faults.items ++ map crossed_fault (take l.writes-index l.crossed)

@@ -9,7 +9,7 @@ loop-init g c =
     let text = c.new.result in
     record {
       ahead = nothing_ahead c.new-lines.result c.args.scope.reading (g.R.Read.remaining c.args.reader.now) c.new-lines.ensures;
-      going = going_first c.args.scope c.args.window (g.R.Read.remaining c.args.reader.now) c.new-lines.result (text_by text.history text.lines.items text.callers) 0 0 _ c.new-lines.ensures c.new.ensures refl refl refl;
+      going = going_first c.args.scope c.args.window c.args.least (g.R.Read.remaining c.args.reader.now) c.new-lines.result (text_by text.history text.lines.items text.callers) c.new-2.result c.new-3.result.items 0 0 _ c.new-lines.ensures c.new.ensures c.new-2.ensures c.new-3.ensures.items refl refl refl;
     }
 
 pub loop-preserved : goal.loop-preserved

@@ -8,5 +8,5 @@ use Rattle.judge_run.proofs.streaming.judge_stream.Given as goal
 abbrev pub invariant-loop : goal.invariant-loop
 invariant-loop g l = record {
   ahead : IsAhead l.lines.ahead (g.R.Read.remaining l.reader);
-  going : IsGoing l.scope l.window (g.R.Read.remaining l.fn.reader) (left_of l.lines (g.R.Read.remaining l.reader)) l.lines (text_by l.stream.text.history l.stream.text.lines.items l.stream.text.callers) l.stream.bound l.stream.latest l.stream.forgotten;
+  going : IsGoing l.scope l.window l.least (g.R.Read.remaining l.fn.reader) (left_of l.lines (g.R.Read.remaining l.reader)) l.lines (text_by l.stream.text.history l.stream.text.lines.items l.stream.text.callers) l.stream.waiting.history l.stream.waiting.lines.items l.stream.bound l.stream.latest l.stream.forgotten;
 }

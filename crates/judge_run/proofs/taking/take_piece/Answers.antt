@@ -9,7 +9,7 @@ use Rattle.history_text.specs.Text.{Text, text_by}
 use Rattle.judge_run.specs.declared.scope.Scope.{Scope}
 use Rattle.judge_run.specs.Scopes.{text_scoped}
 use Rattle.judge_run.specs.Streams.{IsStreamFault}
-use Rattle.judge_run.proofs.TakingLaws.{as_many, before, before_fault, read_fault, taken}
+use Rattle.judge_run.proofs.TakingLaws.{as_many, before, before_fault, enough_judged, read_fault, taken}
 use Rattle.judge_run.proofs.taking.take_piece.Goals as goal
 
 -- nothing is held before a piece
@@ -44,30 +44,35 @@ index-requires g c =
 pub returns-in-Err-clause-fault : goal.returns-in-Err-clause-fault
 returns-in-Err-clause-fault g c = λ window known going.
     let left = left_of c.args.lines.now (g.R.Read.remaining c.args.reader.now) in
-    let held = text_by c.args.stream.text.history c.args.stream.text.lines.items c.args.stream.text.callers in
-    read_fault c.args.scope window known left c.args.lines.now held c.args.stream.bound c.args.stream.latest c.args.stream.forgotten c.in-Err.fault going
-    (fault_from_none left c.args.lines.now c.new.result c.new-2.result.items held.callers c.in-Err.fault c.new.ensures c.new-2.ensures.items c.in-Err.ensures.fault)
+    let stream = c.args.stream in
+    let kept = text_by stream.text.history stream.text.lines.items stream.text.callers in
+    read_fault c.args.scope window c.args.least known left c.args.lines.now kept stream.waiting.history stream.waiting.lines.items stream.bound stream.latest stream.forgotten c.in-Err.fault going
+    (fault_from_none left c.args.lines.now c.new.result c.new-2.result.items kept.callers c.in-Err.fault c.new.ensures c.new-2.ensures.items c.in-Err.ensures.fault)
 
 pub returns-in-Some-clause-fault : goal.returns-in-Some-clause-fault
 returns-in-Some-clause-fault g c = λ window known going.
     let left = left_of c.args.lines.now (g.R.Read.remaining c.args.reader.now) in
     let rest = left_of c.take_calls.new.self (g.R.Read.remaining c.take_calls.new.reader) in
-    let held = text_by c.args.stream.text.history c.args.stream.text.lines.items c.args.stream.text.callers in
+    let stream = c.args.stream in
+    let kept = text_by stream.text.history stream.text.lines.items stream.text.callers in
     let piece = text_by c.take_calls.new.text.history c.take_calls.new.text.lines.items c.take_calls.new.text.callers in
     let judged = text_by c.in-Ok-scoped.piece.history c.in-Ok-scoped.piece.lines.items c.in-Ok-scoped.piece.callers in
-    let takes = from_none left rest c.args.lines.now c.take_calls.new.self c.new.result c.new-2.result.items held.callers piece c.new.ensures c.new-2.ensures.items c.in-Ok.ensures.piece in
-    let there = within c.args.scope left rest c.args.lines.now c.take_calls.new.self held.callers piece judged takes c.in-Ok-scoped.ensures c.in-Some.late c.args.stream.bound c.in-Some.ensures.some.0 in
+    let takes = from_none left rest c.args.lines.now c.take_calls.new.self c.new.result c.new-2.result.items kept.callers piece c.new.ensures c.new-2.ensures.items c.in-Ok.ensures.piece in
+    let there = within c.args.scope left rest c.args.lines.now c.take_calls.new.self kept.callers piece judged takes c.in-Ok-scoped.ensures c.in-Some.late stream.bound c.in-Some.ensures.some.0 in
     subst (λ fault. IsStreamFault c.args.scope window known fault) (sym c.before_window.ensures) (before_fault c.args.scope window known c.index.result.now
-    (before c.args.scope window known left rest c.args.lines.now c.take_calls.new.self held piece judged c.args.stream.bound c.args.stream.latest c.args.stream.forgotten going takes c.in-Ok-scoped.ensures
+    (before c.args.scope window c.args.least known left rest c.args.lines.now c.take_calls.new.self kept stream.waiting.history stream.waiting.lines.items piece judged stream.bound stream.latest stream.forgotten going takes c.in-Ok-scoped.ensures
     c.in-Some.late c.index.result.now c.in-Some.ensures.some.0 c.in-Some.ensures.some.1 (slice_get_read judged.lines (length judged.lines) c.in-Some.late c.index.result.now refl there c.index.ensures)))
 
 pub returns-clause-taken : goal.returns-clause-taken
 returns-clause-taken g c = λ window known going.
     let left = left_of c.args.lines.now (g.R.Read.remaining c.args.reader.now) in
     let rest = left_of c.take_calls.new.self (g.R.Read.remaining c.take_calls.new.reader) in
-    let held = text_by c.args.stream.text.history c.args.stream.text.lines.items c.args.stream.text.callers in
+    let stream = c.args.stream in
+    let kept = text_by stream.text.history stream.text.lines.items stream.text.callers in
     let piece = text_by c.take_calls.new.text.history c.take_calls.new.text.lines.items c.take_calls.new.text.callers in
     let judged = text_by c.in-Ok-scoped.piece.history c.in-Ok-scoped.piece.lines.items c.in-Ok-scoped.piece.callers in
-    let takes = from_none left rest c.args.lines.now c.take_calls.new.self c.new.result c.new-2.result.items held.callers piece c.new.ensures c.new-2.ensures.items c.in-Ok.ensures.piece in
-    taken c.args.scope window known left rest c.args.lines.now c.take_calls.new.self held piece judged c.args.stream.bound c.args.stream.latest c.args.stream.forgotten going takes c.in-Ok-scoped.ensures
-    (text_by c.in-Ok-joined.text.history c.in-Ok-joined.text.lines.items c.in-Ok-joined.text.callers) c.last_end-latest.result c.in_default-first_before.ensures.none c.last_end-latest.ensures c.in-Ok-joined.ensures
+    let takes = from_none left rest c.args.lines.now c.take_calls.new.self c.new.result c.new-2.result.items kept.callers piece c.new.ensures c.new-2.ensures.items c.in-Ok.ensures.piece in
+    taken c.args.scope window c.args.least known left rest c.args.lines.now c.take_calls.new.self kept stream.waiting.history stream.waiting.lines.items piece judged stream.bound stream.latest stream.forgotten going takes c.in-Ok-scoped.ensures
+    (text_by c.in-Ok-joined.text.history c.in-Ok-joined.text.lines.items c.in-Ok-joined.text.callers) c.last_end-latest.result c.in-Ok.over
+    (λ is. enough_judged c.args.scope piece judged c.new.result c.args.least c.most_of-most.result c.in-Ok-scoped.ensures c.new.ensures (c.in-Ok.ensures.full is) c.most_of-most.ensures)
+    c.in_default-first_before.ensures.none c.last_end-latest.ensures c.in-Ok-joined.ensures

@@ -57,7 +57,7 @@ pub(super) fn judged<R: Read, W: Write>(
     told: &mut W,
 ) -> Result<Outcome, TellFault> {
     let known: BuildHasherDefault<FoldHasher> = BuildHasherDefault::new();
-    answer_judge(alloc, known, form, scope, detail, reader, told)
+    answer_judge(alloc, known, form, scope, detail, None, reader, told)
 }
 
 /// The same of a trace.

@@ -1,4 +1,5 @@
 // Files and standard input that are read, and files that are written.
+use history_text::Share;
 use judge_run::{
     CheckRequest, Detail, JudgeRequest, Scope, ShowRequest, check_with, judge_with, run_check,
     run_judge, run_show, show_with,
@@ -27,6 +28,8 @@ enum Step {
     JudgeAtLeast(&'static [u8], u64, u8),
     /// The same, if each stamp may differ from the truth by so much.
     JudgeSkewed(&'static [u8], u64, u8),
+    /// The same, if one key in two is judged, of which this is the part.
+    JudgeKeys(&'static [u8], u32, u8),
     /// It is checked.
     CheckInput(&'static [u8], u8),
     /// Its calls that are of a key are shown.
@@ -50,7 +53,7 @@ const TURNED: &[u8] =
 /// A hit of `v` starts 5 after the put of `w` has ended, which starts 10 after the put of `v` has ended.
 const STALE: &[u8] = b"a 0 10 put k v\nb 20 30 put k w\nc 35 40 hit k v\n";
 
-static STEPS: [Step; 43] = [
+static STEPS: [Step; 45] = [
     // what is no file is no trace
     Step::Check("there is no such file", 3),
     Step::Check(".", 2),
@@ -103,6 +106,9 @@ static STEPS: [Step; 43] = [
     Step::Picture,
     Step::JudgeSkewed(STALE, 3, 0),
     Step::NoPicture,
+    // a key that is not asked for
+    Step::JudgeKeys(b"a 1 4 put k v\n", 0, 0),
+    Step::JudgeKeys(b"a 1 4 put k v\n", 1, 0),
     Step::Remove("judged.txt"),
     Step::Remove("judged.trace"),
     Step::Remove("judged.xml"),
@@ -133,6 +139,8 @@ rejected hit key k lines 1
 rejected hit key k lines 1 2 3
 rejected hit key k lines 1 2 3
 accepted 3 calls
+accepted 1 calls
+accepted 0 calls
 ";
 
 /// What they tell of failures.
@@ -146,6 +154,7 @@ standard input: at offset 0: the input ends before the trace does: write or copy
 standard input: 1 calls, and --at-least asks for 2: see whether the recorder wrote all of them
 standard input: warning: the input has no calls
 standard input: 0 calls, and --at-least asks for 1: see whether the recorder wrote all of them
+standard input: warning: no call of the input has a key that --keys takes
 ";
 
 /// Judging a file, with a picture and a trace.
@@ -240,6 +249,21 @@ fn judged_skewed<R: AllocGlobal + Files + RandomSource>(
     Ok(judged_so(rt, bytes, &request, out, err))
 }
 
+/// The same, if one key in two is judged.
+fn judged_keys<R: AllocGlobal + Files + RandomSource>(
+    rt: &R,
+    bytes: &[u8],
+    part: u32,
+    out: &mut Vec<u8>,
+    err: &mut Vec<u8>,
+) -> Result<u8, AllocError> {
+    let mut request = judge_of(rt.alloc(), "-")?;
+    if let Some(share) = Share::new(part, 2) {
+        request.scope.reading.share = share;
+    }
+    Ok(judged_so(rt, bytes, &request, out, err))
+}
+
 /// The status that a check of a file ends with.
 fn checked<R: AllocGlobal + Files + Input + RandomSource>(
     rt: &R,
@@ -310,6 +334,9 @@ fn is_met<R: AllocGlobal + Files + Input + RandomSource>(
         }
         Step::JudgeSkewed(bytes, skew, status) => {
             Ok(judged_skewed(rt, bytes, skew, out, err)? == status)
+        }
+        Step::JudgeKeys(bytes, part, status) => {
+            Ok(judged_keys(rt, bytes, part, out, err)? == status)
         }
         Step::CheckInput(bytes, status) => Ok(checked_input(rt, bytes, out, err)? == status),
         Step::ShowInput(bytes, key, status) => {

@@ -27,6 +27,7 @@ pub fn an_accepted_text_has_its_own_calls<S: BuildHasher + Copy + Drop, R: Read>
         Form::Json,
         Scope::WHOLE,
         detail,
+        None,
         reader,
         out,
     ) {
@@ -52,6 +53,7 @@ pub fn a_rejected_text_has_the_lines_of_its_reason<S: BuildHasher + Copy + Drop,
         Form::Json,
         Scope::WHOLE,
         Detail::NONE,
+        None,
         reader,
         out,
     ) {
@@ -87,7 +89,16 @@ pub fn want_of_memory_leaves_the_output<S: BuildHasher + Copy + Drop, R: Read>(
 ) -> Result<Outcome, TellFault>
     ensures { result ≡ Err TellFault.OutOfMemory → out.new.items ≡ out.old.items }
 {
-    match answer_judge(alloc, hash_builder, form, Scope::WHOLE, detail, reader, out) {
+    match answer_judge(
+        alloc,
+        hash_builder,
+        form,
+        Scope::WHOLE,
+        detail,
+        None,
+        reader,
+        out,
+    ) {
         Ok(outcome) => Ok(outcome),
         Err(fault) => Err(fault),
     }

@@ -27,7 +27,7 @@ struct Turn {
     told: &'static str,
 }
 
-static TURNS: [Turn; 6] = [
+static TURNS: [Turn; 8] = [
     Turn {
         first: "right.txt",
         others: &[],
@@ -68,7 +68,21 @@ static TURNS: [Turn; 6] = [
         others: &["-"],
         json: true,
         status: 0,
-        told: "{\"calls\":2,\"puts\":1,\"removals\":0,\"hits\":1,\"misses\":0,\"verdict\":\"accepted\"}\n{\"calls\":1,\"puts\":1,\"removals\":0,\"hits\":0,\"misses\":0,\"verdict\":\"accepted\"}\n",
+        told: "{\"file\":\"right.txt\",\"calls\":2,\"puts\":1,\"removals\":0,\"hits\":1,\"misses\":0,\"verdict\":\"accepted\"}\n{\"file\":\"-\",\"calls\":1,\"puts\":1,\"removals\":0,\"hits\":0,\"misses\":0,\"verdict\":\"accepted\"}\n",
+    },
+    Turn {
+        first: "bad.txt",
+        others: &["right.txt"],
+        json: true,
+        status: 2,
+        told: "{\"file\":\"bad.txt\",\"verdict\":\"bad line\",\"line\":2,\"cause\":\"a line has five to seven words of printable ASCII, separated by single spaces: CALLER START END put|hit|miss|remove KEY [VALUE [TIME]]\"}\n{\"file\":\"right.txt\",\"calls\":2,\"puts\":1,\"removals\":0,\"hits\":1,\"misses\":0,\"verdict\":\"accepted\"}\n",
+    },
+    Turn {
+        first: "right.txt",
+        others: &[],
+        json: true,
+        status: 0,
+        told: "{\"calls\":2,\"puts\":1,\"removals\":0,\"hits\":1,\"misses\":0,\"verdict\":\"accepted\"}\n",
     },
 ];
 

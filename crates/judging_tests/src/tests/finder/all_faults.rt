@@ -192,7 +192,7 @@ fn are_faults(faults: &Faults, want: &Wrong) -> bool {
 fn each_fault_is_told_once_in_order(rt: HostRuntime) -> Result<(), Fail> {
     for wrong in HISTORIES.iter() {
         let history = history_of(rt.alloc(), wrong.rows)?;
-        let faults = find_faults(rt.alloc(), &history)?;
+        let faults = find_faults(rt.alloc(), &history, usize::MAX)?;
         assert!(rt; are_faults(&faults, wrong));
     }
     Ok(())
@@ -224,9 +224,45 @@ fn has_excuse(hits: &[WrongHit], index: usize, put: u32, why: Excuse) -> bool {
 #[test]
 fn each_wrong_hit_has_what_excludes_its_put(rt: HostRuntime) -> Result<(), Fail> {
     let history = history_of(rt.alloc(), HISTORIES[1].rows)?;
-    let faults = find_faults(rt.alloc(), &history)?;
+    let faults = find_faults(rt.alloc(), &history, usize::MAX)?;
     let hits = faults.hits.as_slice();
     assert!(rt; has_excuse(hits, 0, 1, Excuse::Replaced(2)));
     assert!(rt; has_excuse(hits, 1, 6, Excuse::Later));
+    Ok(())
+}
+
+/// A value that is put four times, then removed, and read after that; a value that expires, and one that is put too late.
+static REPEATED: [Row; 10] = [
+    (1, 0, 1, Did::Put(1)),
+    (1, 2, 3, Did::Put(1)),
+    (1, 4, 5, Did::Put(1)),
+    (1, 40, 50, Did::Put(1)),
+    (1, 10, 20, Did::Remove),
+    (1, 30, 31, Did::Hit(1)),
+    (2, 0, 1, Did::Expiring(1, 5)),
+    (2, 30, 31, Did::HitAt(1, 5)),
+    (3, 30, 32, Did::Hit(1)),
+    (3, 40, 50, Did::Put(1)),
+];
+
+/// Whether a hit is listed with so many of its puts, the first of them at this position, and is so late.
+fn is_listed(wrong: &WrongHit, count: usize, first: Option<u32>, late: Option<u64>) -> bool {
+    let shown = wrong.puts.first().map(|excluded| excluded.put);
+    wrong.puts.len() == count && shown == first && wrong.late == late
+}
+
+/// Of the puts of a wrong hit the first so many are listed, and how late it is is by all of them.
+#[test]
+fn a_wrong_hit_has_the_first_of_its_puts(rt: HostRuntime) -> Result<(), Fail> {
+    let history = history_of(rt.alloc(), &REPEATED)?;
+    let faults = find_faults(rt.alloc(), &history, 2)?;
+    let hits = faults.hits.as_slice();
+    assert!(rt; hits.len() == 3);
+    assert!(rt; is_listed(&hits[0], 2, Some(0), Some(10)));
+    assert!(rt; is_listed(&hits[1], 1, Some(6), None));
+    assert!(rt; is_listed(&hits[2], 1, Some(9), None));
+    let none = find_faults(rt.alloc(), &history, 0)?;
+    assert!(rt; none.hits.len() == 3);
+    assert!(rt; is_listed(&none.hits[0], 0, None, Some(10)));
     Ok(())
 }
