@@ -71,12 +71,14 @@ impl<'a> Step<'a> {
         Some(number)
     }
 
-    /// Takes the next word if it is two parts with a `=` between them: a key and a value, of which no bytes are spelled as such.
-    pub fn pair_if_any(&mut self) -> Option<(&'a [u8], &'a [u8])> {
+    /// Takes the next word if it is a pair, `KEY=VALUE`, and gives the key and what the value spells.
+    pub fn pair_if_any(&mut self) -> Option<(&'a [u8], Spelled)> {
         let (word, left) = split_word(self.left);
-        let at = word.iter().position(|b| *b == b'=')?;
+        let (key, spelling) = split_pair(word)?;
         self.left = without_blanks(left);
-        Some((&word[..at], &word[at + 1..]))
+        let mut value = ArrayVec::new();
+        self.is_bad |= !spell(spelling, &mut value);
+        Some((key, value))
     }
 
     /// Takes a number. If the next word is none the step is bad.
@@ -99,6 +101,22 @@ impl<'a> Step<'a> {
                 0
             }
         }
+    }
+
+    /// Takes the numbers of 32 bits that stand next, up to 32 of them.
+    pub fn numbers(&mut self) -> ArrayVec<u32, 32> {
+        let mut numbers = ArrayVec::new();
+        for _ in 0..32usize {
+            let Some(number) = self.number_if_any() else {
+                return numbers;
+            };
+            let Ok(small) = u32::try_from(number) else {
+                self.is_bad = true;
+                return numbers;
+            };
+            self.is_bad |= numbers.try_push(small).is_err();
+        }
+        numbers
     }
 
     /// Tells bytes of the answer, as its next word.
@@ -154,7 +172,7 @@ fn spell_words(step: &mut Step<'_>, wanted: &mut Spelled) -> bool {
         if word.is_empty() {
             return true;
         }
-        if wanted.try_push(b' ').is_err() || !spell(word, wanted) {
+        if wanted.try_push(b' ').is_err() || !spell_pair(word, wanted) {
             return false;
         }
     }
@@ -164,6 +182,24 @@ fn spell_words(step: &mut Step<'_>, wanted: &mut Spelled) -> bool {
 // Appends a blank and these bytes, and says whether there was room.
 fn append_word(bytes: &[u8], told: &mut Spelled) -> bool {
     told.try_push(b' ').is_ok() && told.try_extend_from_slice(bytes).is_ok()
+}
+
+// Appends what a word of an answer spells, and says whether there was room. Of a pair its value is spelled.
+fn spell_pair(word: &[u8], wanted: &mut Spelled) -> bool {
+    match split_pair(word) {
+        Some((key, value)) => {
+            wanted.try_extend_from_slice(key).is_ok()
+                && wanted.try_push(b'=').is_ok()
+                && spell(value, wanted)
+        }
+        None => spell(word, wanted),
+    }
+}
+
+// The bytes before the first `=` and behind it, if there is one.
+fn split_pair(word: &[u8]) -> Option<(&[u8], &[u8])> {
+    let at = word.iter().position(|b| *b == b'=')?;
+    Some((&word[..at], &word[at + 1..]))
 }
 
 // Appends what a word spells, and says whether there was room: `-` spells no byte, `v*200` spells 200 of the byte `v`, and any

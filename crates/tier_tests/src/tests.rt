@@ -1,3 +1,4 @@
 mod log;
 mod sets;
 mod store;
+mod texts;

@@ -6,8 +6,7 @@ use super::*;
 static ENDED: &[u8] = b"
     # Of two keys of one tag `a` is visible in the set and `b` on the log's second page, where a look-up of `a` begins. Once
     # `b` is removed, the value of `a` is found where it was all the time.
-    stale 2 1
-    config 1 1 1 2 1 8 1 65536
+    stale 2 1; config 1 1 1 2 1 8 1 65536
     put a 1 0 nobody; put b 2 0 logged; flush sealed; flush wrote
     move written; move freed
     put cx 3 0 logged; flush sealed; flush wrote
@@ -16,8 +15,7 @@ static ENDED: &[u8] = b"
     get a set 1
     asked write 1 read 1 write 0 write 2 read 2 read 2 read 0
 
-    refuse 5
-    config 1 1 1 2 1 8 1 65536
+    refuse 5; config 1 1 1 2 1 8 1 65536
     put a 1 0 nobody; put b 2 0 logged; flush sealed; flush wrote
     move written; move freed
     put cx 3 0 logged; flush sealed; flush wrote
@@ -27,8 +25,7 @@ static ENDED: &[u8] = b"
     asked write 1 read 1 write 0 write 2 read 2 read 0
 
     # The same by gets into a buffer.
-    refuse 5
-    config 1 1 1 2 1 8 1 65536
+    refuse 5; config 1 1 1 2 1 8 1 65536
     put a 1 0 nobody; put b 2 0 logged; flush sealed; flush wrote
     move written; move freed
     put cx 3 0 logged; flush sealed; flush wrote

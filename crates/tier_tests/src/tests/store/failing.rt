@@ -4,8 +4,7 @@ use super::*;
 // Two objects are moved one after the other. The calls of the device: a write of the log's page; a read of it and a write of the
 // set's; a look-up there; the same again, with a read of the set's page first; and two look-ups. In the last row none is refused.
 static REFUSALS: &[u8] = b"
-    refuse 1
-    config 1 1 1 2 1 8 1 65536
+    refuse 1; config 1 1 1 2 1 8 1 65536
     put ax 1 0 nobody; put bx 2 0 logged; flush sealed; flush page lost
     move freed
     get ax absent
@@ -13,8 +12,7 @@ static REFUSALS: &[u8] = b"
     move written; move freed
     get bx set 2; get ax absent
 
-    refuse 2
-    config 1 1 1 2 1 8 1 65536
+    refuse 2; config 1 1 1 2 1 8 1 65536
     put ax 1 0 nobody; put bx 2 0 logged; flush sealed; flush wrote
     move page lost
     get ax absent
@@ -22,8 +20,7 @@ static REFUSALS: &[u8] = b"
     move freed; move written
     get bx set 2; get ax absent
 
-    refuse 3
-    config 1 1 1 2 1 8 1 65536
+    refuse 3; config 1 1 1 2 1 8 1 65536
     put ax 1 0 nobody; put bx 2 0 logged; flush sealed; flush wrote
     move forgotten
     get ax absent
@@ -31,8 +28,7 @@ static REFUSALS: &[u8] = b"
     move freed; move written
     get bx set 2; get ax absent
 
-    refuse 4
-    config 1 1 1 2 1 8 1 65536
+    refuse 4; config 1 1 1 2 1 8 1 65536
     put ax 1 0 nobody; put bx 2 0 logged; flush sealed; flush wrote
     move written
     get ax fault
@@ -40,8 +36,7 @@ static REFUSALS: &[u8] = b"
     move freed; move written
     get bx set 2; get ax set 1
 
-    refuse 5
-    config 1 1 1 2 1 8 1 65536
+    refuse 5; config 1 1 1 2 1 8 1 65536
     put ax 1 0 nobody; put bx 2 0 logged; flush sealed; flush wrote
     move written
     get ax set 1
@@ -49,8 +44,7 @@ static REFUSALS: &[u8] = b"
     move freed; move freed
     get bx absent; get ax set 1
 
-    refuse 6
-    config 1 1 1 2 1 8 1 65536
+    refuse 6; config 1 1 1 2 1 8 1 65536
     put ax 1 0 nobody; put bx 2 0 logged; flush sealed; flush wrote
     move written
     get ax set 1
@@ -58,8 +52,7 @@ static REFUSALS: &[u8] = b"
     move freed; move page lost
     get bx absent; get ax set 1
 
-    refuse 7
-    config 1 1 1 2 1 8 1 65536
+    refuse 7; config 1 1 1 2 1 8 1 65536
     put ax 1 0 nobody; put bx 2 0 logged; flush sealed; flush wrote
     move written
     get ax set 1
@@ -67,8 +60,7 @@ static REFUSALS: &[u8] = b"
     move freed; move page lost
     get bx log 2; get ax absent
 
-    refuse 8
-    config 1 1 1 2 1 8 1 65536
+    refuse 8; config 1 1 1 2 1 8 1 65536
     put ax 1 0 nobody; put bx 2 0 logged; flush sealed; flush wrote
     move written
     get ax set 1
@@ -76,8 +68,7 @@ static REFUSALS: &[u8] = b"
     move freed; move forgotten
     get bx absent; get ax absent
 
-    refuse 9
-    config 1 1 1 2 1 8 1 65536
+    refuse 9; config 1 1 1 2 1 8 1 65536
     put ax 1 0 nobody; put bx 2 0 logged; flush sealed; flush wrote
     move written
     get ax set 1
@@ -85,8 +76,7 @@ static REFUSALS: &[u8] = b"
     move freed; move written
     get bx fault; get ax set 1
 
-    refuse 10
-    config 1 1 1 2 1 8 1 65536
+    refuse 10; config 1 1 1 2 1 8 1 65536
     put ax 1 0 nobody; put bx 2 0 logged; flush sealed; flush wrote
     move written
     get ax set 1
@@ -94,8 +84,7 @@ static REFUSALS: &[u8] = b"
     move freed; move written
     get bx set 2; get ax fault
 
-    refuse 11
-    config 1 1 1 2 1 8 1 65536
+    refuse 11; config 1 1 1 2 1 8 1 65536
     put ax 1 0 nobody; put bx 2 0 logged; flush sealed; flush wrote
     move written
     get ax set 1
@@ -110,8 +99,7 @@ fn each_refused_call_loses_what_it_must(rt: HostRuntime) -> Result<(), Fail> {
 }
 
 static READ_AGAIN: &[u8] = b"
-    refuse 2
-    config 1 1 1 2 1 8 1 65536
+    refuse 2; config 1 1 1 2 1 8 1 65536
     put ax 1 0 nobody; put bx 2 0 logged; flush sealed; flush wrote
     get ax fault; get ax log 1
 ";
@@ -123,15 +111,13 @@ fn a_fault_changes_nothing(rt: HostRuntime) -> Result<(), Fail> {
 
 // The log's page is not what was written, and then the set's.
 static STRANGE: &[u8] = b"
-    stale 1 1
-    config 1 1 1 2 1 8 1 65536
+    stale 1 1; config 1 1 1 2 1 8 1 65536
     put ax 1 0 nobody; put bx 2 0 logged; flush sealed; flush wrote
     get ax damaged
     move page lost
     get ax absent
 
-    stale 0 1
-    config 1 1 1 2 1 8 1 65536
+    stale 0 1; config 1 1 1 2 1 8 1 65536
     put ax 1 0 nobody; put bx 2 0 logged; flush sealed; flush wrote
     move written
     get ax damaged

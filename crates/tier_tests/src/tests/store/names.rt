@@ -42,16 +42,6 @@ pub fn name_of_miss(cause: MissCause) -> &'static [u8] {
     }
 }
 
-pub fn name_of_flush(flushed: Flushed) -> &'static [u8] {
-    match flushed {
-        Flushed::Nothing => b"nothing",
-        Flushed::Wrote => b"wrote",
-        Flushed::PageLost => b"page lost",
-        Flushed::Sealed => b"sealed",
-        Flushed::LogFull => b"log full",
-    }
-}
-
 pub fn name_of_move(moved: MovedWhole) -> &'static [u8] {
     match moved {
         MovedWhole::Nothing => b"nothing",

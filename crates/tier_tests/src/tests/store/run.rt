@@ -6,12 +6,6 @@ use mover::{AnswerKind, Begin};
 use policy_laws::{Choice, Item, Job, Plan};
 use record_pages::{Answer, Prediction, TimedValue, ValueBuffer};
 
-/// When each value that is put expires.
-const EXPIRES: u64 = 10;
-
-/// What a buffer holds before a get.
-const WAS_HELD: &[u8] = b"was held";
-
 /// Makes the call of a store that a step spells, and tells what it gives.
 pub fn call<D: PageDevice<PAGE>, const PAGE: usize>(
     alloc: Global,
@@ -189,22 +183,19 @@ fn commit<D: PageDevice<PAGE>, const PAGE: usize>(
 ) -> Result<(), Fail> {
     let number = step.number();
     let mut plan = Plan::new(alloc);
-    while let Some(item) = step.number_if_any() {
-        keep(&mut plan, item)?;
+    for item in step.numbers() {
+        keep(&mut plan, item as usize)?;
     }
     step.tell(name_of_commit(store.move_commit(&plan, number)));
     Ok(())
 }
 
 // One more item is kept, tried once more if memory was refused.
-fn keep(plan: &mut Plan, item: u64) -> Result<(), Fail> {
+fn keep(plan: &mut Plan, item: usize) -> Result<(), Fail> {
     let Some(prediction) = Prediction::new(Prediction::ENTERING) else {
         return Ok(());
     };
-    let choice = Choice {
-        item: item as usize,
-        prediction,
-    };
+    let choice = Choice { item, prediction };
     match plan.push(choice) {
         Ok(()) => Ok(()),
         Err(_) => Ok(plan.push(choice)?),

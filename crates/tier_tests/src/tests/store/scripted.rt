@@ -80,8 +80,7 @@ impl Played {
 
     // The pages of the sets and of the segments.
     fn device(&self, alloc: Global) -> Result<Tried, AllocError> {
-        let log = self.config.segments.wrapping_mul(self.config.segment_pages);
-        let pages = self.config.sets.wrapping_add(log);
+        let pages = pages_of(&self.config);
         let stale = StaleDevice::new(alloc, pages, self.stale, self.writes)?;
         Ok(AskedDevice::new(FuseDevice::one(stale, self.refused)))
     }
@@ -92,20 +91,6 @@ impl Played {
             Some(store) => step.tell(store.device().asked()),
             None => step.refuse(),
         }
-    }
-}
-
-// A configuration: the eight numbers that follow `config` in a script.
-fn config_of(step: &mut Step<'_>) -> Config {
-    Config {
-        lanes: step.small(),
-        sets: step.small(),
-        memory: step.small(),
-        segments: step.small(),
-        segment_pages: step.small(),
-        entries: step.small(),
-        threshold: step.small(),
-        admit: step.small(),
     }
 }
 

@@ -86,8 +86,7 @@ fn a_forgotten_set_is_written_again(rt: HostRuntime) -> Result<(), Fail> {
 
 static REFUSED: &[u8] = b"
     # The page with one of the objects is lost before the plan comes: it is the third call of the device that fails.
-    refuse 3
-    config 1 1 1 2 1 8 1 65536
+    refuse 3; config 1 1 1 2 1 8 1 65536
     put ax 1 0 nobody; put bx 2 0 logged; flush sealed; flush wrote; put cx 3 0 logged; flush sealed
     begin 1 0 238 15 6 fresh 15 6 fresh
     flush page lost
@@ -96,8 +95,7 @@ static REFUSED: &[u8] = b"
     get bx set 2; get ax set 1
 
     # The set's page is not written, first for one object and then for two.
-    refuse 3
-    config 1 1 1 2 1 8 1 65536
+    refuse 3; config 1 1 1 2 1 8 1 65536
     put ax 1 0 nobody; put bx 2 0 logged; flush sealed; flush wrote
     begin 1 0 238 15 6 fresh
     commit 1 0 forgotten
@@ -106,8 +104,7 @@ static REFUSED: &[u8] = b"
     begin freed; begin 2 0 238 15 6 fresh
     commit 2 0 written
 
-    refuse 8
-    config 1 1 1 2 1 8 1 65536
+    refuse 8; config 1 1 1 2 1 8 1 65536
     put ax 1 0 nobody; put bx 2 0 logged; flush sealed; flush wrote
     begin 1 0 238 15 6 fresh
     commit 1 0 written
