@@ -184,8 +184,7 @@ fn a_readmission_from_a_page_that_is_not_the_logs_loses_it(rt: HostRuntime) -> R
 
 static TAKEN_FROM_A_LOST_PAGE: &[u8] = b"
     append ax 1*100 appended; append bx 2*100 appended; flush sealed; flush wrote
-    take page lost
-    take none
+    take page lost; take none
 ";
 
 #[test]
