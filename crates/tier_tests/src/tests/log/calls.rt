@@ -1,4 +1,5 @@
 //! Which calls a log makes of its device: each page that it must read or write, once, in order, and no other.
+use super::scripted::wrong_line;
 use super::*;
 
 // Two records fill a page each. They are looked up while they lie in the filling buffer and in the flushing one, and on
@@ -43,4 +44,17 @@ static ONE_TAG: &[u8] = b"
 #[test]
 fn a_hit_ends_the_reading(rt: HostRuntime) -> Result<(), Fail> {
     play(rt.alloc(), ONE_TAG)
+}
+
+// The device was asked for other pages, in the last line.
+static UNPLANNED: &[u8] = b"
+    config 1 1 1 2 2 8 1 65536
+    append a 1*200 appended; append b 2*200 appended; flush sealed; flush wrote; flush wrote
+    look b hit 2*200; look a hit 1*200; look c absent
+    asked write 1 write 2 read 1 read 2 read 2 read 1 read 1";
+
+#[test]
+fn a_call_that_is_not_planned_is_seen(rt: HostRuntime) -> Result<(), Fail> {
+    assert!(rt; wrong_line(rt.alloc(), UNPLANNED)? == 5);
+    Ok(())
 }

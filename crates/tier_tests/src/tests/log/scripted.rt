@@ -3,6 +3,7 @@ ghost use Rattle.record_pages.specs.Sizes.{IsPageSize};
 
 use super::run::{call, take};
 use super::*;
+use test_devices::find_wrong_line;
 
 /// A log that steps open, what the device of the next one does, and what was taken of it.
 #[derive(Drop)]
@@ -105,14 +106,26 @@ fn opened(alloc: Global, config: &Config, refused: Refused) -> Result<Owner<Trie
     }
 }
 
-/// Makes the calls of a text, of logs that it opens.
-pub fn play(alloc: Global, text: &[u8]) -> Result<(), Fail> {
-    let mut played = Played {
+// No log is open.
+fn unopened() -> Played {
+    Played {
         refused: NONE_REFUSED,
         owner: None,
         taken: None,
-    };
-    run_text(alloc, &mut played, text)
+    }
+}
+
+/// Makes the calls of a text, of logs that it opens.
+pub fn play(alloc: Global, text: &[u8]) -> Result<(), Fail> {
+    run_text(alloc, &mut unopened(), text)
+}
+
+/// Makes the same calls, and gives the number of the first line that is wrong, or 0.
+pub fn wrong_line(alloc: Global, text: &[u8]) -> Result<u64, Fail> {
+    match find_wrong_line(alloc, &mut unopened(), text)? {
+        Some(wrong) => Ok(wrong.number),
+        None => Ok(0),
+    }
 }
 
 // One lane of one set, and two segments of one page.
