@@ -16,7 +16,7 @@ impl Scripted for Echo {
         match step.word() {
             b"say" => say(step),
             b"add" => add(step),
-            b"count" => step.tell_number(step.numbers().len() as u64),
+            b"count" => count(step),
             b"pair" => pair(step),
             b"quiet" => {}
             _ => step.refuse(),
@@ -35,6 +35,12 @@ fn add(step: &mut Step<'_>) {
     step.tell_number(sum);
 }
 
+fn count(step: &mut Step<'_>) {
+    let numbers = step.numbers();
+    step.tell(b"of");
+    step.tell_number(numbers.len() as u64);
+}
+
 fn pair(step: &mut Step<'_>) {
     match step.pair_if_any() {
         Some((key, value)) => step.tell_pair(key, value.as_slice()),
@@ -49,7 +55,7 @@ static RIGHT: &[u8] = b"
   say - -  ;  quiet;; quiet
     say v*3 vvv; say vvv v*3; say v*0 -
     add 0 0 0; add 18446744073709551615 0 18446744073709551615; add 7 4294967295 4294967302
-    count 1 2 3 3; count 4 1
+    count 1 2 3 of 3; count of 0
     pair k=v k=v; pair k=v*2 k=vv; pair k=- k=; pair k= k=-";
 
 #[test]
