@@ -1,3 +1,5 @@
 mod log;
+mod reader;
 mod sets;
 mod store;
+mod texts;

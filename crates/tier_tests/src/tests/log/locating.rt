@@ -1,171 +1,67 @@
 //! A key is located, and its entry touched: to locate leaves the log as it was, and a touch lowers the prediction of its entry
 //! and of no other.
-use super::passing::TWO_SETS;
 use super::*;
 
-// A key may have 255 bytes.
-const TOO_LONG: [u8; 256] = [b'a'; 256];
-
-const SECOND: Place = Place { slot: 1, ..FIRST };
-
-const TOUCH_A: Step = Step::Touch(b"ax");
-
-const TOUCH_B: Step = Step::Touch(b"bx");
-
-const LATE_A: Step = Step::LocateLate(b"ax");
-
-const NEW_A: Step = Step::Locate(b"ax", FIRST, 6, b"1");
-
-const NEW_B: Step = Step::Locate(b"bx", SECOND, 6, b"");
-
-const TOUCHED_A: Step = Step::Locate(b"ax", FIRST, 5, b"1");
-
 // The second call of the device is refused, which is the first search on the page.
-static IN_BUFFERS_AND_ON_THE_PAGE: [Step; 23] = [
-    Step::Append(b"ax", b"1", ADDED),
-    Step::Append(b"bx", b"", ADDED),
-    NEW_A,
-    NEW_B,
-    NEW_A,
-    LATE_A,
-    Step::LocateNone(b"cx", WantedLook::Absent),
-    Step::LocateNone(b"", WantedLook::Absent),
-    Step::LocateNone(&TOO_LONG, WantedLook::Absent),
-    TOUCH_A,
-    TOUCHED_A,
-    NEW_B,
-    SEAL,
-    TOUCHED_A,
-    TOUCH_A,
-    WRITE,
-    Step::LocateNone(b"ax", WantedLook::Fault),
-    LATE_A,
-    Step::Locate(b"ax", FIRST, 4, b"1"),
-    TOUCH_A,
-    Step::First(TAG_OF_AX, FIRST, 3),
-    Step::Look(b"ax", WantedLook::Value(b"1")),
-    Step::Locate(b"ax", FIRST, 2, b"1"),
-];
+static IN_BUFFERS_AND_ON_THE_PAGE: &[u8] = b"
+    refuse 2; config 1 1 1 2 1 8 1 65536
+    append ax 1 appended; append bx - appended
+    locate ax at 0 0 0 6 1; locate bx at 0 0 1 6 -; locate ax at 0 0 0 6 1; locate-late ax expired
+    locate cx absent; locate - absent; locate a*256 absent
+    touch ax
+    locate ax at 0 0 0 5 1; locate bx at 0 0 1 6 -
+    flush sealed
+    locate ax at 0 0 0 5 1
+    touch ax
+    flush wrote
+    locate ax fault; locate-late ax expired; locate ax at 0 0 0 4 1
+    touch ax
+    oldest 0 2204 at 0 0 0 3
+    look ax hit 1; locate ax at 0 0 0 2 1
+";
 
 #[test]
 fn a_located_value_is_in_the_buffer(rt: HostRuntime) -> Result<(), Fail> {
-    let second = Refused {
-        call: 2,
-        for_good: false,
-    };
-    on(
-        &rt,
-        rt.alloc(),
-        &ONE_SET,
-        second,
-        &IN_BUFFERS_AND_ON_THE_PAGE,
-    )
+    play(rt.alloc(), IN_BUFFERS_AND_ON_THE_PAGE)
 }
 
-const LOST: [Step; 4] = [
-    Step::Append(b"ax", b"1", ADDED),
-    SEAL,
-    WRITE,
-    Step::LocateNone(b"ax", WantedLook::Damaged),
-];
+static LOST: &[u8] = b"
+    append ax 1 appended; flush sealed; flush wrote
+    locate ax damaged
+";
 
 #[test]
 fn a_lost_page_leaves_the_buffer(rt: HostRuntime) -> Result<(), Fail> {
-    on_blank(&rt, rt.alloc(), &LOST)
+    play_on_blank(rt.alloc(), LOST)
 }
 
-// Two sets, and two segments of two pages.
-static TWO_OF_EACH: Config = Config {
-    segment_pages: 2,
-    ..TWO_SETS
-};
-
-const NEXT_PAGE: Place = Place { page: 1, ..FIRST };
-
-const NEXT_SEGMENT: Place = Place {
-    segment: 1,
-    ..FIRST
-};
-
-const SECOND_THERE: Place = Place {
-    slot: 1,
-    ..NEXT_SEGMENT
-};
-
-const THIRD_THERE: Place = Place {
-    slot: 2,
-    ..NEXT_SEGMENT
-};
-
-const FULL: &[u8] = &[3; 200];
-
-const TOUCH_AAD: Step = Step::Touch(b"aad");
-
-const TOUCH_AAA: Step = Step::Touch(b"aaa");
-
-const AAC: Step = Step::Locate(b"aac", SECOND, 5, b"2");
-
-const AAA: Step = Step::Locate(b"aaa", FIRST, 6, b"1");
-
-const AAD: Step = Step::Locate(b"aad", NEXT_SEGMENT, 4, b"4");
-
-const AX: Step = Step::Locate(b"ax", SECOND_THERE, 6, b"5");
-
-const BX: Step = Step::Locate(b"bx", THIRD_THERE, 6, b"6");
-
 // `aaa` and `aac` have one tag and set 0, `aab` and `aad` that tag and set 1, and `ax` and `bx` other tags, sets 0 and 1.
-static EACH_ALONE: [Step; 45] = [
-    Step::Append(b"aaa", b"1", ADDED),
-    Step::Append(b"aac", b"2", ADDED),
-    Step::Append(b"aab", FULL, ADDED),
-    SEAL,
-    Step::Append(b"aad", b"4", ADDED),
-    Step::Append(b"ax", b"5", ADDED),
-    Step::Append(b"bx", b"6", ADDED),
-    Step::Touch(b"aac"),
-    AAA,
-    AAC,
-    Step::Locate(b"aab", NEXT_PAGE, 6, FULL),
-    Step::Locate(b"aad", NEXT_SEGMENT, 6, b"4"),
-    AX,
-    BX,
-    // Touched on the other page, and in the other segment.
-    Step::Touch(b"aab"),
-    TOUCH_AAD,
-    TOUCH_AAD,
-    AAA,
-    AAC,
-    Step::Locate(b"aab", NEXT_PAGE, 5, FULL),
-    AAD,
-    AX,
-    BX,
-    // The same with the first segment on the device; a look is a touch, and a prediction is not below 0.
-    WRITE,
-    WRITE,
-    TOUCH_AAA,
-    Step::Look(b"aab", WantedLook::Value(FULL)),
-    TOUCH_A,
-    TOUCH_B,
-    TOUCH_B,
-    TOUCH_B,
-    TOUCH_B,
-    TOUCH_B,
-    TOUCH_B,
-    TOUCH_B,
-    Step::Locate(b"aaa", FIRST, 5, b"1"),
-    AAC,
-    Step::Locate(b"aab", NEXT_PAGE, 4, FULL),
-    AAD,
-    Step::Locate(b"ax", SECOND_THERE, 5, b"5"),
-    Step::Locate(b"bx", THIRD_THERE, 0, b"6"),
-    // A newer record of the key is the one that is touched.
-    Step::Append(b"aaa", b"7", ADDED),
-    TOUCH_AAA,
-    Step::Look(b"aaa", WantedLook::Value(b"7")),
-    Step::First(59164, FIRST, 5),
-];
+static EACH_ALONE: &[u8] = b"
+    config 1 2 1 2 2 8 1 65536
+    append aaa 1 appended; append aac 2 appended; append aab 3*200 appended; flush sealed
+    append aad 4 appended; append ax 5 appended; append bx 6 appended
+    touch aac
+    locate aaa at 0 0 0 6 1; locate aac at 0 0 1 5 2; locate aab at 0 1 0 6 3*200
+    locate aad at 1 0 0 6 4; locate ax at 1 0 1 6 5; locate bx at 1 0 2 6 6
+    # Touched on the other page, and in the other segment.
+    touch aab; touch aad; touch aad
+    locate aaa at 0 0 0 6 1; locate aac at 0 0 1 5 2; locate aab at 0 1 0 5 3*200
+    locate aad at 1 0 0 4 4; locate ax at 1 0 1 6 5; locate bx at 1 0 2 6 6
+    # The same with the first segment on the device; a look is a touch, and a prediction is not below 0.
+    flush wrote; flush wrote
+    touch aaa
+    look aab hit 3*200
+    touch ax; touch bx; touch bx; touch bx; touch bx; touch bx; touch bx; touch bx
+    locate aaa at 0 0 0 5 1; locate aac at 0 0 1 5 2; locate aab at 0 1 0 4 3*200
+    locate aad at 1 0 0 4 4; locate ax at 1 0 1 5 5; locate bx at 1 0 2 0 6
+    # A newer record of the key is the one that is touched.
+    append aaa 7 appended
+    touch aaa
+    look aaa hit 7
+    oldest 0 59164 at 0 0 0 5
+";
 
 #[test]
 fn a_touch_lowers_one_entry(rt: HostRuntime) -> Result<(), Fail> {
-    on(&rt, rt.alloc(), &TWO_OF_EACH, NONE_REFUSED, &EACH_ALONE)
+    play(rt.alloc(), EACH_ALONE)
 }

@@ -1,164 +1,110 @@
 //! Records on two pages of a segment: each call of the device refused in turn, alone and with all later ones.
 use super::*;
 
-// One lane of one set, and two segments of two pages.
-static TWO_PAGES: Config = Config {
-    segment_pages: 2,
-    ..ONE_SET
-};
-
-const ADD_A: Step = Step::Append(b"ax", &[1; 200], ADDED);
-
-const ADD_B: Step = Step::Append(b"bx", &[2; 200], ADDED);
-
-const LOSE: Step = Step::Flush(Flushed::PageLost);
-
-const A: Step = Step::Look(b"ax", WantedLook::Value(&[1; 200]));
-
-const B: Step = Step::Look(b"bx", WantedLook::Value(&[2; 200]));
-
-const BAD_A: Step = Step::Look(b"ax", WantedLook::Fault);
-
-const BAD_B: Step = Step::Look(b"bx", WantedLook::Fault);
-
-const NO_A: Step = Step::Look(b"ax", WantedLook::Absent);
-
-const NO_B: Step = Step::Look(b"bx", WantedLook::Absent);
-
-const A_TAKEN: Kept = Kept {
-    key: b"ax",
-    value: &[1; 200],
-    prediction: 5,
-    place: FIRST,
-    segment: 0,
-};
-
-const A_NOT_READ: Kept = Kept {
-    prediction: 6,
-    ..A_TAKEN
-};
-
-const B_TAKEN: Kept = Kept {
-    key: b"bx",
-    value: &[2; 200],
-    prediction: 5,
-    place: Place { page: 1, ..FIRST },
-    segment: 0,
-};
-
-const B_NOT_READ: Kept = Kept {
-    prediction: 6,
-    ..B_TAKEN
-};
-
-const TAKE: Step = Step::Take(&[B_TAKEN, A_TAKEN]);
-
-const TAKE_A: Step = Step::Take(&[A_TAKEN]);
-
-const TAKE_B: Step = Step::Take(&[B_TAKEN]);
-
-// The look-up of the one record failed, so it was not hit.
-const HIT_B: Step = Step::Take(&[B_TAKEN, A_NOT_READ]);
-
-const HIT_A: Step = Step::Take(&[B_NOT_READ, A_TAKEN]);
-
-const NO_TAKE: Step = Step::Take(&[]);
-
-const LOST: Step = Step::TakeLost;
-
-const MOVE: Step = Step::Readmit(Some(Readmitted::Readmitted));
-
-const FAULT: Step = Step::Readmit(Some(Readmitted::Fault));
-
-const NONE: Step = Step::Readmit(None);
-
-// After the readmissions the oldest segment has no live record, whatever was lost.
-const END: Step = Step::Empty;
-
-const FREE: Step = Step::Free(true);
-
 // The calls of a script, each with what it gives. Two records, ax and bx, fill a page each. Their pages are written, they
 // are looked up, taken together, readmitted in turn, and looked up once more. With each call of the device taken it makes
 // eight: two writes and six reads.
-const WHOLE: [Step; 14] = [
-    ADD_A, ADD_B, SEAL, WRITE, WRITE, A, B, TAKE, MOVE, MOVE, END, A, B, FREE,
-];
-
 // What comes if each call of the device is refused alone, and if it is refused with all later ones. A taking loses
 // the page of one record, and the readmission after it that of the other.
-static REFUSED: [(&[Step], &[Step]); 9] = [
-    (
-        &[
-            ADD_A, ADD_B, SEAL, LOSE, WRITE, NO_A, B, TAKE_B, MOVE, NONE, END, NO_A, B, FREE,
-        ],
-        &[
-            ADD_A, ADD_B, SEAL, LOSE, LOSE, NO_A, NO_B, NO_TAKE, NONE, NONE, END, NO_A, NO_B, FREE,
-        ],
-    ),
-    (
-        &[
-            ADD_A, ADD_B, SEAL, WRITE, LOSE, A, NO_B, TAKE_A, MOVE, NONE, END, A, NO_B, FREE,
-        ],
-        &[
-            ADD_A, ADD_B, SEAL, WRITE, LOSE, BAD_A, NO_B, LOST, NONE, NONE, END, NO_A, NO_B, FREE,
-        ],
-    ),
-    (
-        &[
-            ADD_A, ADD_B, SEAL, WRITE, WRITE, BAD_A, B, HIT_B, MOVE, MOVE, END, A, B, FREE,
-        ],
-        &[
-            ADD_A, ADD_B, SEAL, WRITE, WRITE, BAD_A, BAD_B, LOST, FAULT, NONE, END, NO_A, NO_B,
-            FREE,
-        ],
-    ),
-    (
-        &[
-            ADD_A, ADD_B, SEAL, WRITE, WRITE, A, BAD_B, HIT_A, MOVE, MOVE, END, A, B, FREE,
-        ],
-        &[
-            ADD_A, ADD_B, SEAL, WRITE, WRITE, A, BAD_B, LOST, FAULT, NONE, END, NO_A, NO_B, FREE,
-        ],
-    ),
-    (
-        &[
-            ADD_A, ADD_B, SEAL, WRITE, WRITE, A, B, LOST, MOVE, NONE, END, A, NO_B, FREE,
-        ],
-        &[
-            ADD_A, ADD_B, SEAL, WRITE, WRITE, A, B, LOST, FAULT, NONE, END, NO_A, NO_B, FREE,
-        ],
-    ),
-    (
-        &[
-            ADD_A, ADD_B, SEAL, WRITE, WRITE, A, B, LOST, MOVE, NONE, END, NO_A, B, FREE,
-        ],
-        &[
-            ADD_A, ADD_B, SEAL, WRITE, WRITE, A, B, LOST, FAULT, NONE, END, NO_A, NO_B, FREE,
-        ],
-    ),
-    (
-        &[
-            ADD_A, ADD_B, SEAL, WRITE, WRITE, A, B, TAKE, FAULT, MOVE, END, NO_A, B, FREE,
-        ],
-        &[
-            ADD_A, ADD_B, SEAL, WRITE, WRITE, A, B, TAKE, FAULT, FAULT, END, NO_A, NO_B, FREE,
-        ],
-    ),
-    (
-        &[
-            ADD_A, ADD_B, SEAL, WRITE, WRITE, A, B, TAKE, MOVE, FAULT, END, A, NO_B, FREE,
-        ],
-        &[
-            ADD_A, ADD_B, SEAL, WRITE, WRITE, A, B, TAKE, MOVE, FAULT, END, A, NO_B, FREE,
-        ],
-    ),
-    (&WHOLE, &WHOLE),
-];
+// The look-up of the one record failed, so it was not hit.
+// After the readmissions the oldest segment has no live record, whatever was lost.
+static REFUSED: &[u8] = b"
+    refuse 1; config 1 1 1 2 2 8 1 65536
+    append ax 1*200 appended; append bx 2*200 appended; flush sealed; flush page lost; flush wrote
+    look ax absent; look bx hit 2*200; take bx=2*200 at 0 1 0 5 0; readmit readmitted; readmit none
+    oldest empty; look ax absent; look bx hit 2*200; free freed
+
+    refuse-from 1; config 1 1 1 2 2 8 1 65536
+    append ax 1*200 appended; append bx 2*200 appended; flush sealed; flush page lost
+    flush page lost; look ax absent; look bx absent; take none; readmit none; readmit none
+    oldest empty; look ax absent; look bx absent; free freed
+
+    refuse 2; config 1 1 1 2 2 8 1 65536
+    append ax 1*200 appended; append bx 2*200 appended; flush sealed; flush wrote; flush page lost
+    look ax hit 1*200; look bx absent; take ax=1*200 at 0 0 0 5 0; readmit readmitted; readmit none
+    oldest empty; look ax hit 1*200; look bx absent; free freed
+
+    refuse-from 2; config 1 1 1 2 2 8 1 65536
+    append ax 1*200 appended; append bx 2*200 appended; flush sealed; flush wrote; flush page lost
+    look ax fault; look bx absent; take page lost; readmit none; readmit none; oldest empty
+    look ax absent; look bx absent; free freed
+
+    refuse 3; config 1 1 1 2 2 8 1 65536
+    append ax 1*200 appended; append bx 2*200 appended; flush sealed; flush wrote; flush wrote
+    look ax fault; look bx hit 2*200; take bx=2*200 at 0 1 0 5 0 ax=1*200 at 0 0 0 6 0
+    readmit readmitted; readmit readmitted; oldest empty; look ax hit 1*200; look bx hit 2*200
+    free freed
+
+    refuse-from 3; config 1 1 1 2 2 8 1 65536
+    append ax 1*200 appended; append bx 2*200 appended; flush sealed; flush wrote; flush wrote
+    look ax fault; look bx fault; take page lost; readmit fault; readmit none; oldest empty
+    look ax absent; look bx absent; free freed
+
+    refuse 4; config 1 1 1 2 2 8 1 65536
+    append ax 1*200 appended; append bx 2*200 appended; flush sealed; flush wrote; flush wrote
+    look ax hit 1*200; look bx fault; take bx=2*200 at 0 1 0 6 0 ax=1*200 at 0 0 0 5 0
+    readmit readmitted; readmit readmitted; oldest empty; look ax hit 1*200; look bx hit 2*200
+    free freed
+
+    refuse-from 4; config 1 1 1 2 2 8 1 65536
+    append ax 1*200 appended; append bx 2*200 appended; flush sealed; flush wrote; flush wrote
+    look ax hit 1*200; look bx fault; take page lost; readmit fault; readmit none; oldest empty
+    look ax absent; look bx absent; free freed
+
+    refuse 5; config 1 1 1 2 2 8 1 65536
+    append ax 1*200 appended; append bx 2*200 appended; flush sealed; flush wrote; flush wrote
+    look ax hit 1*200; look bx hit 2*200; take page lost; readmit readmitted; readmit none
+    oldest empty; look ax hit 1*200; look bx absent; free freed
+
+    refuse-from 5; config 1 1 1 2 2 8 1 65536
+    append ax 1*200 appended; append bx 2*200 appended; flush sealed; flush wrote; flush wrote
+    look ax hit 1*200; look bx hit 2*200; take page lost; readmit fault; readmit none; oldest empty
+    look ax absent; look bx absent; free freed
+
+    refuse 6; config 1 1 1 2 2 8 1 65536
+    append ax 1*200 appended; append bx 2*200 appended; flush sealed; flush wrote; flush wrote
+    look ax hit 1*200; look bx hit 2*200; take page lost; readmit readmitted; readmit none
+    oldest empty; look ax absent; look bx hit 2*200; free freed
+
+    refuse-from 6; config 1 1 1 2 2 8 1 65536
+    append ax 1*200 appended; append bx 2*200 appended; flush sealed; flush wrote; flush wrote
+    look ax hit 1*200; look bx hit 2*200; take page lost; readmit fault; readmit none; oldest empty
+    look ax absent; look bx absent; free freed
+
+    refuse 7; config 1 1 1 2 2 8 1 65536
+    append ax 1*200 appended; append bx 2*200 appended; flush sealed; flush wrote; flush wrote
+    look ax hit 1*200; look bx hit 2*200; take bx=2*200 at 0 1 0 5 0 ax=1*200 at 0 0 0 5 0
+    readmit fault; readmit readmitted; oldest empty; look ax absent; look bx hit 2*200; free freed
+
+    refuse-from 7; config 1 1 1 2 2 8 1 65536
+    append ax 1*200 appended; append bx 2*200 appended; flush sealed; flush wrote; flush wrote
+    look ax hit 1*200; look bx hit 2*200; take bx=2*200 at 0 1 0 5 0 ax=1*200 at 0 0 0 5 0
+    readmit fault; readmit fault; oldest empty; look ax absent; look bx absent; free freed
+
+    refuse 8; config 1 1 1 2 2 8 1 65536
+    append ax 1*200 appended; append bx 2*200 appended; flush sealed; flush wrote; flush wrote
+    look ax hit 1*200; look bx hit 2*200; take bx=2*200 at 0 1 0 5 0 ax=1*200 at 0 0 0 5 0
+    readmit readmitted; readmit fault; oldest empty; look ax hit 1*200; look bx absent; free freed
+
+    refuse-from 8; config 1 1 1 2 2 8 1 65536
+    append ax 1*200 appended; append bx 2*200 appended; flush sealed; flush wrote; flush wrote
+    look ax hit 1*200; look bx hit 2*200; take bx=2*200 at 0 1 0 5 0 ax=1*200 at 0 0 0 5 0
+    readmit readmitted; readmit fault; oldest empty; look ax hit 1*200; look bx absent; free freed
+
+    refuse 9; config 1 1 1 2 2 8 1 65536
+    append ax 1*200 appended; append bx 2*200 appended; flush sealed; flush wrote; flush wrote
+    look ax hit 1*200; look bx hit 2*200; take bx=2*200 at 0 1 0 5 0 ax=1*200 at 0 0 0 5 0
+    readmit readmitted; readmit readmitted; oldest empty; look ax hit 1*200; look bx hit 2*200
+    free freed
+
+    refuse-from 9; config 1 1 1 2 2 8 1 65536
+    append ax 1*200 appended; append bx 2*200 appended; flush sealed; flush wrote; flush wrote
+    look ax hit 1*200; look bx hit 2*200; take bx=2*200 at 0 1 0 5 0 ax=1*200 at 0 0 0 5 0
+    readmit readmitted; readmit readmitted; oldest empty; look ax hit 1*200; look bx hit 2*200
+    free freed
+";
 
 #[test]
 fn each_page_is_lost_alone(rt: HostRuntime) -> Result<(), Fail> {
-    for number in 0..REFUSED.len() {
-        refused_in_turn(&rt, rt.alloc(), &TWO_PAGES, number, REFUSED[number])?;
-    }
-    Ok(())
+    play(rt.alloc(), REFUSED)
 }

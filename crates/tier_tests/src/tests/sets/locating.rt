@@ -1,83 +1,50 @@
 //! Keys that are located: a hit leaves its value in the buffer, all other answers leave it as it was, and nothing is noted
 //! until a slot is touched.
-use super::retried::EXPIRES;
-use super::step::WAS_HELD;
 use super::*;
-use kset::LocatedInSet::{Absent, Damaged, Fault, Hit};
-
-// A key may have 255 bytes.
-const TOO_LONG: [u8; 256] = [b'a'; 256];
-
-const LOCATES_A: Step = Step::Locate(
-    b"ax",
-    Hit {
-        slot: 0,
-        expires: EXPIRES,
-    },
-    b"1",
-);
-
-const LOCATES_B: Step = Step::Locate(
-    b"bx",
-    Hit {
-        slot: 1,
-        expires: EXPIRES,
-    },
-    b"2",
-);
 
 // The second call of the device is refused, which is the first that locates.
-static ON_THE_PAGE: [Step; 14] = [
-    WRITES,
-    Step::Locate(b"ax", Fault, WAS_HELD),
-    Step::LocateLate(b"bx"),
-    LOCATES_A,
-    LOCATES_B,
-    Step::Locate(b"cx", Absent, WAS_HELD),
-    Step::Locate(b"", Absent, WAS_HELD),
-    Step::Locate(&TOO_LONG, Absent, WAS_HELD),
-    // Nothing was noted.
-    Step::Read(&[AX, BX]),
-    Step::Touch(b"ax", 1),
-    Step::Read(&[AX, BX_HIT]),
-    LOCATES_B,
-    Step::Strike(b"bx"),
-    Step::Locate(b"bx", Absent, WAS_HELD),
-];
+static ON_THE_PAGE: &[u8] = b"
+    refuse 2; config 1 1 1 2 1 8 1 65536
+    write ax=1 bx=2 written
+    locate ax fault; locate-late bx expired; locate ax 0 1; locate bx 1 2; locate cx absent
+    locate - absent; locate a*256 absent
+    # Nothing was noted.
+    read ax=1 bx=2
+    touch ax 1
+    read ax=1 bx=2 hit
+    locate bx 1 2
+    strike bx
+    locate bx absent
+";
 
 #[test]
 fn a_hit_is_in_the_buffer_and_a_miss_leaves_it(rt: HostRuntime) -> Result<(), Fail> {
-    on_refusing(&rt, rt.alloc(), Refused::Alone(2), &ON_THE_PAGE)
+    play(rt.alloc(), ON_THE_PAGE)
 }
 
-const LOST: [Step; 2] = [WRITES, Step::Locate(b"ax", Damaged, WAS_HELD)];
+static LOST: &[u8] = b"
+    write ax=1 bx=2 written
+    locate ax damaged
+";
 
 #[test]
 fn a_lost_page_leaves_the_buffer(rt: HostRuntime) -> Result<(), Fail> {
-    on_blank(&rt, rt.alloc(), &LOST)
+    play_on_blank(rt.alloc(), LOST)
 }
 
 // The sets of ax and of bx differ, and each has both records.
-const IN_TWO_SETS: [Step; 12] = [
-    Step::WriteOf(b"ax", &PAIR),
-    Step::WriteOf(b"bx", &PAIR),
-    LOCATES_A,
-    LOCATES_B,
-    Step::ReadOf(b"ax", &[AX, BX]),
-    Step::ReadOf(b"bx", &[AX, BX]),
-    Step::Touch(b"bx", 1),
-    Step::ReadOf(b"ax", &[AX, BX]),
-    Step::ReadOf(b"bx", &[AX, BX_HIT]),
-    Step::Touch(b"ax", 0),
-    Step::ReadOf(b"ax", &[AX_HIT, BX]),
-    Step::ReadOf(b"bx", &[AX, BX_HIT]),
-];
+static IN_TWO_SETS: &[u8] = b"
+    config 1 5 1 2 1 8 1 65536
+    write-of ax ax=1 bx=2 written; write-of bx ax=1 bx=2 written
+    locate ax 0 1; locate bx 1 2
+    read-of ax ax=1 bx=2; read-of bx ax=1 bx=2
+    touch bx 1
+    read-of ax ax=1 bx=2; read-of bx ax=1 bx=2 hit
+    touch ax 0
+    read-of ax ax=1 hit bx=2; read-of bx ax=1 bx=2 hit
+";
 
 #[test]
 fn a_touch_notes_its_slot_of_its_set(rt: HostRuntime) -> Result<(), Fail> {
-    let opened = Opened {
-        config: FIVE_SETS,
-        ..SOUND
-    };
-    on(&rt, rt.alloc(), &opened, &IN_TWO_SETS)
+    play(rt.alloc(), IN_TWO_SETS)
 }

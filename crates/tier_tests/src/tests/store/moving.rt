@@ -1,105 +1,57 @@
 //! An object goes from memory to the log and on to its set.
 use super::*;
 
-const IN_MEMORY: [Step; 3] = [
-    Step::Put(b"a", b"1", 0, Pushed::Nobody),
-    Step::Get(b"a", Found::Memory(b"1")),
-    Step::Get(b"b", Found::Absent),
-];
-
-pub static MEMORY: [Row; 1] = [Row {
-    config: Config {
-        memory: 4,
-        ..ONE_SET
-    },
-    tables: &[&IN_MEMORY],
-    ..ROW
-}];
+static MEMORY: &[u8] = b"
+    config 1 1 4 2 1 8 1 65536
+    put a 1 0 nobody
+    get a memory 1; get b absent
+";
 
 #[test]
 fn what_was_put_is_in_memory(rt: HostRuntime) -> Result<(), Fail> {
-    run_rows(&rt, rt.alloc(), &MEMORY)
+    play(rt.alloc(), MEMORY)
 }
 
-const THROUGH_ALL_TIERS: [Step; 20] = [
-    Step::Put(b"ax", b"1", 0, Pushed::Nobody),
-    Step::Put(b"bx", b"2", 0, Pushed::Logged),
-    Step::Get(b"ax", Found::Log(b"1")),
-    Step::Flush(Flushed::Sealed),
-    Step::Flush(Flushed::Wrote),
-    Step::Flush(Flushed::Nothing),
-    Step::Get(b"ax", Found::Log(b"1")),
-    Step::Move(MovedWhole::Written),
-    Step::Get(b"ax", Found::Set(b"1")),
-    Step::Move(MovedWhole::Freed),
-    Step::Move(MovedWhole::Nothing),
-    Step::Put(b"cx", b"3", 0, Pushed::Logged),
-    Step::Flush(Flushed::Sealed),
-    Step::Flush(Flushed::Wrote),
-    Step::Move(MovedWhole::Written),
-    Step::Get(b"ax", Found::Set(b"1")),
-    Step::Get(b"bx", Found::Set(b"2")),
-    Step::Get(b"cx", Found::Memory(b"3")),
-    Step::Forget(b"cx"),
-    Step::Get(b"cx", Found::Absent),
-];
-
-pub static TIERS: [Row; 1] = [Row {
-    tables: &[&THROUGH_ALL_TIERS],
-    ..ROW
-}];
+static TIERS: &[u8] = b"
+    config 1 1 1 2 1 8 1 65536
+    put ax 1 0 nobody; put bx 2 0 logged
+    get ax log 1
+    flush sealed; flush wrote; flush nothing
+    get ax log 1
+    move written
+    get ax set 1
+    move freed; move nothing
+    put cx 3 0 logged; flush sealed; flush wrote
+    move written
+    get ax set 1; get bx set 2; get cx memory 3
+    forget cx
+    get cx absent
+";
 
 #[test]
 fn an_object_goes_through_the_tiers(rt: HostRuntime) -> Result<(), Fail> {
-    run_rows(&rt, rt.alloc(), &TIERS)
+    play(rt.alloc(), TIERS)
 }
 
-const DROPPED: [Step; 7] = [
-    Step::Put(b"ax", b"1", 0, Pushed::Nobody),
-    Step::Put(b"bx", b"2", 0, Pushed::Logged),
-    Step::Flush(Flushed::Sealed),
-    Step::Flush(Flushed::Wrote),
-    Step::Move(MovedWhole::Dropped),
-    Step::Get(b"ax", Found::Absent),
-    Step::Move(MovedWhole::Freed),
-];
+static ALONE: &[u8] = b"
+    config 1 1 1 2 1 8 2 65536
+    put ax 1 0 nobody; put bx 2 0 logged; flush sealed; flush wrote
+    move dropped
+    get ax absent
+    move freed
 
-// A record that was readmitted has the prediction of a new one, so it is dropped if it is not asked for again.
-const READMITTED: [Step; 12] = [
-    Step::Put(b"ax", b"1", 0, Pushed::Nobody),
-    Step::Put(b"bx", b"2", 0, Pushed::Logged),
-    Step::Get(b"ax", Found::Log(b"1")),
-    Step::Flush(Flushed::Sealed),
-    Step::Flush(Flushed::Wrote),
-    Step::Move(MovedWhole::Readmitted),
-    Step::Move(MovedWhole::Freed),
-    Step::Flush(Flushed::Sealed),
-    Step::Flush(Flushed::Wrote),
-    Step::Move(MovedWhole::Dropped),
-    Step::Get(b"ax", Found::Absent),
-    Step::Get(b"bx", Found::Memory(b"2")),
-];
-
-pub static ALONE: [Row; 2] = [
-    Row {
-        config: Config {
-            threshold: 2,
-            ..ONE_SET
-        },
-        tables: &[&DROPPED],
-        ..ROW
-    },
-    Row {
-        config: Config {
-            threshold: 2,
-            ..ONE_SET
-        },
-        tables: &[&READMITTED],
-        ..ROW
-    },
-];
+    # A record that was readmitted has the prediction of a new one, so it is dropped if it is not asked for again.
+    config 1 1 1 2 1 8 2 65536
+    put ax 1 0 nobody; put bx 2 0 logged
+    get ax log 1
+    flush sealed; flush wrote
+    move readmitted; move freed
+    flush sealed; flush wrote
+    move dropped
+    get ax absent; get bx memory 2
+";
 
 #[test]
 fn what_moves_alone_is_dropped_or_readmitted(rt: HostRuntime) -> Result<(), Fail> {
-    run_rows(&rt, rt.alloc(), &ALONE)
+    play(rt.alloc(), ALONE)
 }

@@ -33,7 +33,7 @@ fn a_store_opens_over_enough_pages(rt: HostRuntime) -> Result<(), Fail> {
         Some(OpenFault::WrongPage)
     );
     assert_eq!(rt; fault::<128>(alloc, &NO_SET, 2)?, NO_FIELD);
-    let opened = store(alloc, &ROW)?;
+    let opened = Store::open(alloc, &ONE_SET, MemoryDevice::<256>::new(alloc, 3)?)?;
     assert_eq!(rt; opened.layout().entries, 8);
     assert_eq!(rt; opened.into_device().pages(), 3);
     Ok(())

@@ -1,246 +1,158 @@
-//! Calls of a store, each with what it gives.
+//! The calls of a store, by their words.
+use super::names::*;
 use super::*;
 use memory_cache::Pair;
-use mover::{Aborted, AnswerKind, Begin, Committed, CopyFate};
+use mover::{AnswerKind, Begin};
 use policy_laws::{Choice, Item, Job, Plan};
-use record_pages::{
-    Answer, Key, MissCause, Prediction, PutFault, Tier, TimedValue, Value, ValueBuffer,
-};
+use record_pages::{Answer, Prediction, TimedValue, ValueBuffer};
 
-/// When each value that is put expires.
-pub const EXPIRES: u64 = 10;
-
-/// What a get is to find.
-#[derive(Clone, Copy)]
-pub enum Found {
-    Memory(&'static [u8]),
-    Log(&'static [u8]),
-    Set(&'static [u8]),
-    Absent,
-    Fault,
-    Damaged,
-    Expired,
-}
-
-/// What is to be known of an item.
-#[derive(Clone, Copy)]
-pub struct Known {
-    pub size: u32,
-    pub prediction: u8,
-    pub hit: bool,
-    pub fresh: bool,
-}
-
-/// How a move is to begin.
-#[derive(Clone, Copy)]
-pub enum Began {
-    Nothing,
-    Busy,
-    Freed,
-    Readmitted,
-    Dropped,
-    PageLost,
-    /// The number of the move, whose set is 0, and its items.
-    Job(u64, &'static [Known]),
-    /// The number of the move, its set, and its items.
-    JobOf(u64, u32, &'static [Known]),
-    /// The number of the move, and how many items it has.
-    Items(u64, usize),
-}
-
-/// A call of a store, and what it gives.
-#[derive(Clone, Copy)]
-pub enum Step {
-    /// A key, its value, the word, and what becomes of the pair that leaves memory.
-    Put(&'static [u8], &'static [u8], u32, Pushed),
-    /// A key and the value that it has, and what becomes of a copy that is put back. The log has one live record more exactly if
-    /// the copy entered it.
-    PutBack(&'static [u8], &'static [u8], CopyFate),
-    /// A key and a value that are too large together.
-    TooLarge(&'static [u8], &'static [u8]),
-    /// A key, and what is found of it, a moment before it expires.
-    Get(&'static [u8], Found),
-    /// A key, and what is found of it when it expires.
-    GetLate(&'static [u8], Found),
-    /// The bytes of a key, and what is found of them in a buffer, a moment before it expires.
-    GetInto(&'static [u8], Found),
-    /// The bytes of a key, and what is found of them in a buffer when it expires.
-    GetIntoLate(&'static [u8], Found),
-    /// A key.
-    Remove(&'static [u8]),
-    /// The bytes of a key.
-    RemoveBytes(&'static [u8]),
-    /// A key.
-    Forget(&'static [u8]),
-    Flush(Flushed),
-    Move(MovedWhole),
-    Begin(Began),
-    /// The items that a plan keeps, each with prediction 6, and the number of its move.
-    Commit(&'static [usize], u64, Committed),
-    /// The number of a move.
-    Abort(u64, Aborted),
-}
-
-/// Makes each of these calls, which gives what is written beside it.
-pub fn run<D: PageDevice<PAGE>, const PAGE: usize>(
-    rt: &impl Abort,
+/// Makes the call of a store that a step spells, and tells what it gives.
+pub fn call<D: PageDevice<PAGE>, const PAGE: usize>(
     alloc: Global,
     store: &mut Store<D, PAGE>,
-    steps: &[Step],
+    word: &[u8],
+    step: &mut Step<'_>,
 ) -> Result<(), Fail> {
-    for number in 0..steps.len() {
-        assert!(rt; gives(alloc, store, &steps[number])?, "step {number}");
+    match word {
+        b"put" => put(alloc, store, step),
+        b"put-back" => put_back(alloc, store, step),
+        b"get" => get(alloc, store, step, EXPIRES - 1),
+        b"get-late" => get(alloc, store, step, EXPIRES),
+        b"remove" => {
+            store.remove(&step.key(alloc)?);
+            Ok(())
+        }
+        b"forget" => {
+            store.forget(&step.key(alloc)?);
+            Ok(())
+        }
+        b"move" => {
+            step.tell(name_of_move(moved(store)?));
+            Ok(())
+        }
+        b"begin" => {
+            tell_begun(&begun(store)?, step);
+            Ok(())
+        }
+        b"begin-many" => {
+            tell_count(&begun(store)?, step);
+            Ok(())
+        }
+        b"commit" => commit(alloc, store, step),
+        other => {
+            simple(store, other, step);
+            Ok(())
+        }
     }
-    Ok(())
 }
 
-// Whether a call gives what is written beside it.
-fn gives<D: PageDevice<PAGE>, const PAGE: usize>(
-    alloc: Global,
+// The same of the calls that take no memory.
+fn simple<D: PageDevice<PAGE>, const PAGE: usize>(
     store: &mut Store<D, PAGE>,
-    step: &Step,
-) -> Result<bool, Fail> {
-    match step {
-        Step::Put(name, bytes, word, wanted) => {
-            Ok(is_put(put(alloc, store, name, bytes, *word)?, *wanted))
+    word: &[u8],
+    step: &mut Step<'_>,
+) {
+    match word {
+        b"get-into" => get_into(store, step, EXPIRES - 1),
+        b"get-into-late" => get_into(store, step, EXPIRES),
+        b"remove-bytes" => store.remove_bytes(step.bytes().as_slice()),
+        b"flush" => step.tell(name_of_flush(store.flush_step())),
+        b"abort" => {
+            let number = step.number();
+            step.tell(name_of_abort(store.move_abort(number)));
         }
-        Step::TooLarge(name, bytes) => Ok(is_too_large(put(alloc, store, name, bytes, 0)?)),
-        Step::PutBack(name, bytes, wanted) => Ok(puts_back(alloc, store, name, bytes, *wanted)?),
-        Step::Get(name, wanted) => Ok(is_found(get(alloc, store, name, EXPIRES - 1)?, wanted)),
-        Step::GetLate(name, wanted) => Ok(is_found(get(alloc, store, name, EXPIRES)?, wanted)),
-        Step::GetInto(name, wanted) => Ok(gets_into(store, name, EXPIRES - 1, wanted)),
-        Step::GetIntoLate(name, wanted) => Ok(gets_into(store, name, EXPIRES, wanted)),
-        Step::RemoveBytes(name) => {
-            store.remove_bytes(name);
-            Ok(true)
-        }
-        Step::Remove(name) => {
-            store.remove(&key(alloc, name)?);
-            Ok(true)
-        }
-        Step::Forget(name) => {
-            store.forget(&key(alloc, name)?);
-            Ok(true)
-        }
-        Step::Flush(wanted) => Ok(store.flush_step() == *wanted),
-        _ => {
-            let given = moves(alloc, store, step)?;
-            Ok(given)
-        }
+        _ => step.refuse(),
     }
 }
 
-// Whether a call of a move gives what is written beside it.
-fn moves<D: PageDevice<PAGE>, const PAGE: usize>(
-    alloc: Global,
-    store: &mut Store<D, PAGE>,
-    step: &Step,
-) -> Result<bool, Fail> {
-    match step {
-        Step::Move(wanted) => Ok(moved(store)? == *wanted),
-        Step::Begin(wanted) => Ok(is_begun(begun(store)?, wanted)),
-        Step::Commit(items, number, wanted) => {
-            Ok(store.move_commit(&plan(alloc, items)?, *number) == *wanted)
-        }
-        Step::Abort(number, wanted) => Ok(store.move_abort(*number) == *wanted),
-        _ => Ok(false),
-    }
-}
-
-// Puts a pair, once more if memory was refused.
+// Puts a pair, with the word that decides of the pair that leaves memory, and tells what became of that.
 fn put<D: PageDevice<PAGE>, const PAGE: usize>(
     alloc: Global,
     store: &mut Store<D, PAGE>,
-    name: &[u8],
-    bytes: &[u8],
-    word: u32,
-) -> Result<Result<Pushed, PutFault>, Fail> {
-    match store.put(key(alloc, name)?, value(alloc, bytes)?, word, EXPIRES) {
+    step: &mut Step<'_>,
+) -> Result<(), Fail> {
+    let name = step.bytes();
+    let bytes = step.bytes();
+    let word = step.small();
+    let put = match store.put(key(alloc, &name)?, value(alloc, &bytes)?, word, EXPIRES) {
         Err(PutFault::OutOfMemory) => {
-            Ok(store.put(key(alloc, name)?, value(alloc, bytes)?, word, EXPIRES))
+            store.put(key(alloc, &name)?, value(alloc, &bytes)?, word, EXPIRES)
         }
-        Ok(pushed) => Ok(Ok(pushed)),
-        Err(fault) => Ok(Err(fault)),
-    }
+        other => other,
+    };
+    step.tell(name_of_put(put));
+    Ok(())
 }
 
-// Whether this becomes of a copy, and the log has one live record more exactly if it entered.
-fn puts_back<D: PageDevice<PAGE>, const PAGE: usize>(
+// Puts a copy back, and tells its fate. The log has one live record more exactly if the copy entered it.
+fn put_back<D: PageDevice<PAGE>, const PAGE: usize>(
     alloc: Global,
     store: &mut Store<D, PAGE>,
-    name: &[u8],
-    bytes: &[u8],
-    wanted: CopyFate,
-) -> Result<bool, Fail> {
+    step: &mut Step<'_>,
+) -> Result<(), Fail> {
     let pair = Pair {
-        key: key(alloc, name)?,
+        key: step.key(alloc)?,
         value: TimedValue {
-            value: value(alloc, bytes)?,
+            value: step.value(alloc)?,
             expires: EXPIRES,
         },
     };
     let before = store.log_usage().live;
     let fate = store.put_back(&pair);
+    step.tell(name_of_fate(fate));
     let joined = store.log_usage().live.wrapping_sub(before);
-    Ok(fate == wanted && joined == u32::from(wanted == CopyFate::Logged))
+    if joined != u32::from(fate == CopyFate::Logged) {
+        step.refuse();
+    }
+    Ok(())
 }
 
+// Gets a key, and tells where its value was and the value, or why there is none.
 fn get<D: PageDevice<PAGE>, const PAGE: usize>(
     alloc: Global,
     store: &mut Store<D, PAGE>,
-    name: &[u8],
+    step: &mut Step<'_>,
     moment: u64,
-) -> Result<Answer, Fail> {
-    let key = key(alloc, name)?;
-    match store.get(&key, moment) {
-        Ok(answer) => Ok(answer),
-        Err(_) => Ok(store.get(&key, moment)?),
+) -> Result<(), Fail> {
+    let key = step.key(alloc)?;
+    let answer = match store.get(&key, moment) {
+        Ok(answer) => answer,
+        Err(_) => store.get(&key, moment)?,
+    };
+    match answer {
+        Answer::Hit(value, tier) => tell_hit(tier, value.bytes(), step),
+        Answer::Miss(cause) => step.tell(name_of_miss(cause)),
     }
+    Ok(())
 }
 
-// What a buffer holds before a get.
-pub const WAS_HELD: &[u8] = b"was held";
+fn tell_hit(tier: Tier, bytes: &[u8], step: &mut Step<'_>) {
+    step.tell(name_of_tier(tier));
+    step.tell(bytes);
+}
 
-// Whether this is found of the bytes of a key: a hit is in the buffer, and a miss leaves it as it was.
-fn gets_into<D: PageDevice<PAGE>, const PAGE: usize>(
+// Gets the bytes of a key into a buffer, and tells the same: a hit has the expiry that each value was put with, and a miss leaves
+// the buffer as it was.
+fn get_into<D: PageDevice<PAGE>, const PAGE: usize>(
     store: &mut Store<D, PAGE>,
-    name: &[u8],
+    step: &mut Step<'_>,
     moment: u64,
-    wanted: &Found,
-) -> bool {
+) {
     let mut found = ValueBuffer::empty();
     found.set(WAS_HELD);
-    let seen = store.get_into(name, moment, &mut found);
-    is_seen(seen, wanted) && found.bytes() == held_then(wanted)
-}
-
-// Whether this is a hit in the tier, with the expiry that each value was put with.
-fn is_hit_in(seen: AnswerKind, tier: Tier) -> bool {
-    seen == AnswerKind::Hit {
-        tier,
-        expires: EXPIRES,
-    }
-}
-
-pub fn is_seen(seen: AnswerKind, wanted: &Found) -> bool {
-    match wanted {
-        Found::Memory(_) => is_hit_in(seen, Tier::Memory),
-        Found::Log(_) => is_hit_in(seen, Tier::Log),
-        Found::Set(_) => is_hit_in(seen, Tier::Set),
-        Found::Absent => seen == AnswerKind::Miss(MissCause::Absent),
-        Found::Fault => seen == AnswerKind::Miss(MissCause::Fault),
-        Found::Damaged => seen == AnswerKind::Miss(MissCause::Damaged),
-        Found::Expired => seen == AnswerKind::Miss(MissCause::Expired),
-    }
-}
-
-// What a buffer is to hold after a get.
-pub fn held_then(wanted: &Found) -> &'static [u8] {
-    match wanted {
-        Found::Memory(bytes) => *bytes,
-        Found::Log(bytes) => *bytes,
-        Found::Set(bytes) => *bytes,
-        _ => WAS_HELD,
+    match store.get_into(step.bytes().as_slice(), moment, &mut found) {
+        AnswerKind::Hit { tier, expires } => {
+            tell_hit(tier, found.bytes(), step);
+            if expires != EXPIRES {
+                step.tell_number(expires);
+            }
+        }
+        AnswerKind::Miss(cause) => {
+            step.tell(name_of_miss(cause));
+            if found.bytes() != WAS_HELD {
+                step.tell(found.bytes());
+            }
+        }
     }
 }
 
@@ -262,90 +174,73 @@ fn begun<D: PageDevice<PAGE>, const PAGE: usize>(
     }
 }
 
-// A plan that keeps these items, made once more if memory was refused.
-fn plan(alloc: Global, items: &[usize]) -> Result<Plan, Fail> {
+// Ends the move of a number by a plan that keeps the items behind it, each with the prediction that a record enters with, and tells
+// how it ended.
+fn commit<D: PageDevice<PAGE>, const PAGE: usize>(
+    alloc: Global,
+    store: &mut Store<D, PAGE>,
+    step: &mut Step<'_>,
+) -> Result<(), Fail> {
+    let number = step.number();
     let mut plan = Plan::new(alloc);
-    let Some(prediction) = Prediction::new(Prediction::ENTERING) else {
-        return Ok(plan);
-    };
-    for number in 0..items.len() {
-        keep(&mut plan, items[number], prediction)?;
+    for item in step.numbers() {
+        keep(&mut plan, item as usize)?;
     }
-    Ok(plan)
+    step.tell(name_of_commit(store.move_commit(&plan, number)));
+    Ok(())
 }
 
 // One more item is kept, tried once more if memory was refused.
-fn keep(plan: &mut Plan, item: usize, prediction: Prediction) -> Result<(), Fail> {
-    match plan.push(Choice { item, prediction }) {
+fn keep(plan: &mut Plan, item: usize) -> Result<(), Fail> {
+    let Some(prediction) = Prediction::new(Prediction::ENTERING) else {
+        return Ok(());
+    };
+    let choice = Choice { item, prediction };
+    match plan.push(choice) {
         Ok(()) => Ok(()),
-        Err(_) => Ok(plan.push(Choice { item, prediction })?),
+        Err(_) => Ok(plan.push(choice)?),
     }
 }
 
-fn is_begun(begun: Begin, wanted: &Began) -> bool {
-    match (begun, wanted) {
-        (Begin::Job(job), Began::Job(number, items)) => {
-            job.number == *number && job.set == 0 && job.room == 238 && are_known(&job, items)
+// Tells how a move began: a job by its number, its set, its room and its items.
+fn tell_begun(begun: &Begin, step: &mut Step<'_>) {
+    match begun {
+        Begin::Job(job) => {
+            step.tell_number(job.number);
+            step.tell_number(u64::from(job.set));
+            step.tell_number(u64::from(job.room));
+            tell_items(job, step);
         }
-        (Begin::Job(job), Began::JobOf(number, set, items)) => {
-            job.number == *number && job.set == *set && are_known(&job, items)
-        }
-        (Begin::Job(job), Began::Items(number, count)) => {
-            job.number == *number && job.items.len() == *count
-        }
-        (Begin::Nothing, Began::Nothing) => true,
-        (Begin::Busy, Began::Busy) => true,
-        (Begin::Freed, Began::Freed) => true,
-        (Begin::Readmitted, Began::Readmitted) => true,
-        (Begin::Dropped, Began::Dropped) => true,
-        (Begin::PageLost, Began::PageLost) => true,
-        _ => false,
+        other => step.tell(name_of_begin(other)),
     }
 }
 
-// Whether these are the items of a job, in their order.
-fn are_known(job: &Job, wanted: &[Known]) -> bool {
-    if job.items.len() != wanted.len() {
-        return false;
+// Tells how a move began: a job by its number, and how many items it has.
+fn tell_count(begun: &Begin, step: &mut Step<'_>) {
+    match begun {
+        Begin::Job(job) => {
+            step.tell_number(job.number);
+            step.tell_number(job.items.len() as u64);
+        }
+        other => step.tell(name_of_begin(other)),
     }
+}
+
+// Tells the items of a job, in their order.
+fn tell_items(job: &Job, step: &mut Step<'_>) {
     for number in 0..job.items.len() {
-        if !is_known(*job.items.at(number), &wanted[number]) {
-            return false;
-        }
-    }
-    true
-}
-
-fn is_known(item: Item, wanted: &Known) -> bool {
-    item.size == wanted.size
-        && item.prediction.get() == wanted.prediction
-        && item.hit == wanted.hit
-        && item.fresh == wanted.fresh
-}
-
-pub fn is_put(answer: Result<Pushed, PutFault>, wanted: Pushed) -> bool {
-    match answer {
-        Ok(pushed) => pushed == wanted,
-        Err(_) => false,
+        tell_item(*job.items.at(number), step);
     }
 }
 
-pub fn is_too_large(answer: Result<Pushed, PutFault>) -> bool {
-    match answer {
-        Err(PutFault::TooLarge) => true,
-        _ => false,
+// Tells an item by its size and its prediction, and whether it was hit and is fresh.
+fn tell_item(item: Item, step: &mut Step<'_>) {
+    step.tell_number(u64::from(item.size));
+    step.tell_number(u64::from(item.prediction.get()));
+    if item.hit {
+        step.tell(b"hit");
     }
-}
-
-fn is_found(answer: Answer, wanted: &Found) -> bool {
-    match (answer, wanted) {
-        (Answer::Hit(value, Tier::Memory), Found::Memory(bytes)) => value.bytes() == *bytes,
-        (Answer::Hit(value, Tier::Log), Found::Log(bytes)) => value.bytes() == *bytes,
-        (Answer::Hit(value, Tier::Set), Found::Set(bytes)) => value.bytes() == *bytes,
-        (Answer::Miss(MissCause::Absent), Found::Absent) => true,
-        (Answer::Miss(MissCause::Fault), Found::Fault) => true,
-        (Answer::Miss(MissCause::Damaged), Found::Damaged) => true,
-        (Answer::Miss(MissCause::Expired), Found::Expired) => true,
-        _ => false,
+    if item.fresh {
+        step.tell(b"fresh");
     }
 }

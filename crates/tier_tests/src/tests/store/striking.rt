@@ -2,117 +2,58 @@
 use super::*;
 
 // The three keys have one tag.
-const ONE_TAG: [Step; 5] = [
-    Step::Put(b"a", b"1", 0, Pushed::Nobody),
-    Step::Put(b"b", b"2", 0, Pushed::Logged),
-    Step::Put(b"c", b"3", 0, Pushed::Logged),
-    Step::Get(b"a", Found::Absent),
-    Step::Get(b"b", Found::Log(b"2")),
-];
-
-pub static NEIGHBOURS: [Row; 1] = [Row {
-    tables: &[&ONE_TAG],
-    ..ROW
-}];
+static NEIGHBOURS: &[u8] = b"
+    config 1 1 1 2 1 8 1 65536
+    put a 1 0 nobody; put b 2 0 logged; put c 3 0 logged
+    get a absent; get b log 2
+";
 
 #[test]
 fn a_put_strikes_its_neighbours_of_one_tag(rt: HostRuntime) -> Result<(), Fail> {
-    run_rows(&rt, rt.alloc(), &NEIGHBOURS)
+    play(rt.alloc(), NEIGHBOURS)
 }
 
 // What is on flash of a key is hidden by a put of it, also once the new pair was lost.
-const PUT_ANEW: [Step; 11] = [
-    Step::Put(b"ax", b"1", 0, Pushed::Nobody),
-    Step::Put(b"bx", b"2", 32767, Pushed::Logged),
-    Step::Flush(Flushed::Sealed),
-    Step::Flush(Flushed::Wrote),
-    Step::Move(MovedWhole::Written),
-    Step::Put(b"ax", b"3", 65536, Pushed::Logged),
-    Step::Put(b"bx", b"4", 65535, Pushed::Declined),
-    Step::Get(b"ax", Found::Absent),
-    Step::Put(b"cx", b"5", 32768, Pushed::Declined),
-    Step::Get(b"bx", Found::Absent),
-    Step::Get(b"cx", Found::Memory(b"5")),
-];
-
-pub static HIDDEN: [Row; 1] = [Row {
-    config: Config {
-        admit: 32768,
-        ..ONE_SET
-    },
-    tables: &[&PUT_ANEW],
-    ..ROW
-}];
+static HIDDEN: &[u8] = b"
+    config 1 1 1 2 1 8 1 32768
+    put ax 1 0 nobody; put bx 2 32767 logged; flush sealed; flush wrote
+    move written
+    put ax 3 65536 logged; put bx 4 65535 declined
+    get ax absent
+    put cx 5 32768 declined
+    get bx absent; get cx memory 5
+";
 
 #[test]
 fn a_put_hides_what_is_on_flash(rt: HostRuntime) -> Result<(), Fail> {
-    run_rows(&rt, rt.alloc(), &HIDDEN)
+    play(rt.alloc(), HIDDEN)
 }
 
-const NONE_ADMITTED: [Step; 3] = [
-    Step::Put(b"ax", b"1", 0, Pushed::Nobody),
-    Step::Put(b"bx", b"2", 0, Pushed::Declined),
-    Step::Get(b"ax", Found::Absent),
-];
-
-pub const LOST: [Row; 1] = [Row {
-    config: Config {
-        admit: 0,
-        ..ONE_SET
-    },
-    tables: &[&NONE_ADMITTED],
-    ..ROW
-}];
+static LOST: &[u8] = b"
+    config 1 1 1 2 1 8 1 0
+    put ax 1 0 nobody; put bx 2 0 declined
+    get ax absent
+";
 
 #[test]
 fn where_none_is_admitted_a_pair_is_lost(rt: HostRuntime) -> Result<(), Fail> {
-    run_rows(&rt, rt.alloc(), &LOST)
+    play(rt.alloc(), LOST)
 }
 
-pub const ELEVEN: [Step; 14] = [
-    Step::Put(b"ax", b"1", 0, Pushed::Nobody),
-    Step::Put(b"bx", b"1", 0, Pushed::Logged),
-    Step::Put(b"cx", b"1", 0, Pushed::Logged),
-    Step::Put(b"dx", b"1", 0, Pushed::Logged),
-    Step::Put(b"ex", b"1", 0, Pushed::Logged),
-    Step::Put(b"fx", b"1", 0, Pushed::Logged),
-    Step::Put(b"gx", b"1", 0, Pushed::Logged),
-    Step::Put(b"hx", b"1", 0, Pushed::Logged),
-    Step::Put(b"ix", b"1", 0, Pushed::Logged),
-    Step::Put(b"jx", b"1", 0, Pushed::Logged),
-    Step::Put(b"kx", b"1", 0, Pushed::Logged),
-    Step::Flush(Flushed::Sealed),
-    Step::Flush(Flushed::Wrote),
-    Step::Move(MovedWhole::Written),
-];
-
-const NINE_STRIKES: [Step; 14] = [
-    Step::Remove(b"ax"),
-    Step::Remove(b"bx"),
-    Step::Remove(b"cx"),
-    Step::Remove(b"dx"),
-    Step::Remove(b"ex"),
-    Step::Remove(b"fx"),
-    Step::Remove(b"gx"),
-    Step::Remove(b"hx"),
-    Step::Remove(b"ax"),
-    Step::Get(b"ax", Found::Absent),
-    Step::Get(b"jx", Found::Set(b"1")),
-    Step::Remove(b"ix"),
-    Step::Get(b"jx", Found::Absent),
-    Step::Get(b"kx", Found::Memory(b"1")),
-];
-
-pub const NINTH: [Row; 1] = [Row {
-    config: Config {
-        entries: 16,
-        ..ONE_SET
-    },
-    tables: &[&ELEVEN, &NINE_STRIKES],
-    ..ROW
-}];
+static NINTH: &[u8] = b"
+    config 1 1 1 2 1 16 1 65536
+    put ax 1 0 nobody; put bx 1 0 logged; put cx 1 0 logged; put dx 1 0 logged; put ex 1 0 logged
+    put fx 1 0 logged; put gx 1 0 logged; put hx 1 0 logged; put ix 1 0 logged; put jx 1 0 logged
+    put kx 1 0 logged; flush sealed; flush wrote
+    move written
+    remove ax; remove bx; remove cx; remove dx; remove ex; remove fx; remove gx; remove hx
+    remove ax
+    get ax absent; get jx set 1
+    remove ix
+    get jx absent; get kx memory 1
+";
 
 #[test]
 fn the_ninth_strike_forgets_the_set(rt: HostRuntime) -> Result<(), Fail> {
-    run_rows(&rt, rt.alloc(), &NINTH)
+    play(rt.alloc(), NINTH)
 }

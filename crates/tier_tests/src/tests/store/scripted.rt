@@ -1,0 +1,107 @@
+//! The store of a test's text, and the device below it.
+use super::run::call;
+use super::*;
+use test_devices::{AskedDevice, Scripted, run_text};
+
+type Tried = AskedDevice<FuseDevice<StaleDevice<256>>>;
+
+/// A store that steps open, and what the device of the next one does.
+#[derive(Drop)]
+struct Played {
+    config: Config,
+    /// The page that is read as it was before its last write, and the number of the write from which on it is.
+    stale: u32,
+    writes: u32,
+    /// The number of the device's call that is refused, from 1, or 0.
+    refused: u32,
+    store: Option<Store<Tried, 256>>,
+}
+
+impl Scripted for Played {
+    ghost use Rattle.std.specs.Prelude.{⊤};
+
+    ghost can_act = { ⊤ };
+
+    fn act(&mut self, alloc: Global, step: &mut Step<'_>) -> Result<(), Fail> {
+        match step.word() {
+            b"config" => self.open(alloc, step),
+            b"again" => self.open_again(alloc),
+            b"stale" => {
+                self.stale = step.small();
+                self.writes = step.small();
+                Ok(())
+            }
+            b"refuse" => {
+                self.refused = step.small();
+                Ok(())
+            }
+            b"asked" => {
+                self.tell_asked(step);
+                Ok(())
+            }
+            word => self.call(alloc, word, step),
+        }
+    }
+}
+
+impl Played {
+    // Makes a call of the store.
+    fn call(&mut self, alloc: Global, word: &[u8], step: &mut Step<'_>) -> Result<(), Fail> {
+        match &mut self.store {
+            Some(store) => call(alloc, store, word, step),
+            None => {
+                step.refuse();
+                Ok(())
+            }
+        }
+    }
+
+    // Opens an empty store of the configuration of a step, over a device of zeros with just the pages that it needs.
+    fn open(&mut self, alloc: Global, step: &mut Step<'_>) -> Result<(), Fail> {
+        self.config = config_of(step);
+        let device = self.device(alloc)?;
+        self.store = match Store::open(alloc, &self.config, device) {
+            Ok(store) => Some(store),
+            Err(_) => Some(Store::open(alloc, &self.config, self.device(alloc)?)?),
+        };
+        self.stale = u32::MAX;
+        self.refused = 0;
+        Ok(())
+    }
+
+    // Opens another empty store over the device of the one that is open.
+    fn open_again(&mut self, alloc: Global) -> Result<(), Fail> {
+        let Some(store) = self.store.take() else {
+            return Err("a store".into());
+        };
+        self.store = Some(Store::open(alloc, &self.config, store.into_device())?);
+        Ok(())
+    }
+
+    // The pages of the sets and of the segments.
+    fn device(&self, alloc: Global) -> Result<Tried, AllocError> {
+        let pages = pages_of(&self.config);
+        let stale = StaleDevice::new(alloc, pages, self.stale, self.writes)?;
+        Ok(AskedDevice::new(FuseDevice::one(stale, self.refused)))
+    }
+
+    // Tells what the calls since the opening asked of the device, in this order.
+    fn tell_asked(&mut self, step: &mut Step<'_>) {
+        match &self.store {
+            Some(store) => step.tell(store.device().asked()),
+            None => step.refuse(),
+        }
+    }
+}
+
+/// Makes the calls of a text, of stores that it opens.
+pub fn play(alloc: Global, text: &[u8]) -> Result<(), Fail> {
+    let mut played = Played {
+        config: ONE_SET,
+        stale: u32::MAX,
+        writes: 1,
+        refused: 0,
+        store: None,
+    };
+    run_text(alloc, &mut played, text)
+}
