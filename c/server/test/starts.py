@@ -9,7 +9,7 @@ import stat
 import subprocess
 import time
 
-from harness import PATIENCE, PROGRAM, Client, Server, Skipped, equal, expect, free_port, run_words, server, shows, usual_words
+from harness import PATIENCE, PROGRAM, Client, Server, Skipped, equal, expect, free_port, run_words, server, shows, usual_words, wait_for
 
 
 @shows("SIGTERM, SIGINT and SIGUSR1 end it with status 0, and its socket and pid file are gone; SIGHUP and SIGPIPE do not")
@@ -179,10 +179,7 @@ def daemon():
         equal(again.returncode, 71, "the status of one that is refused its folder")
         expect(b"another cache has this folder" in again.stderr, again.stderr)
         os.kill(pid, signal.SIGTERM)
-        ends = time.monotonic() + PATIENCE
-        while os.path.exists(f"{folder}/socket") or os.path.exists(f"/proc/{pid}/exe"):
-            expect(time.monotonic() < ends, "it ends")
-            time.sleep(0.01)
+        wait_for(lambda: not os.path.exists(f"{folder}/socket") and not os.path.exists(f"/proc/{pid}/exe"), "it ends")
 
 
 def handed_over(listener, words):

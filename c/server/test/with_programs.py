@@ -3,7 +3,6 @@ of what was seen and whether it was as it has to be."""
 import contextlib
 import http.client
 import http.server
-import os
 import socket
 import subprocess
 import threading
