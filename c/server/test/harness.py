@@ -174,6 +174,15 @@ class Client:
         self.socket.close()
 
 
+def listens(address):
+    """Whether somebody listens at an address."""
+    try:
+        Client(address).close()
+        return True
+    except OSError:
+        return False
+
+
 class Server:
     """kangarood in a new folder, on a Unix socket in it, or where the words say."""
 
