@@ -187,7 +187,8 @@ KINDS = {"check": try_check, "judge": try_judge, "scripts": try_scripts, "runs":
 
 def main():
     kind, *words = sys.argv[1:] or [""]
-    if kind not in KINDS or len(words) < 2 and kind in ("judge", "tests") or len(words) > 1 and kind not in ("judge", "tests"):
+    wants_more = kind in ("judge", "tests")
+    if kind not in KINDS or (len(words) < 2 if wants_more else len(words) > 1):
         raise SystemExit(__doc__)
     with tempfile.TemporaryDirectory() as folder:
         KINDS[kind](compiled("refuse_memory", folder), folder, *words)
