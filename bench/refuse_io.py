@@ -23,7 +23,9 @@ import subprocess
 import sys
 import tempfile
 
-HERE = os.path.dirname(os.path.abspath(__file__))
+sys.dont_write_bytecode = True
+from refuse_memory import BUILT, HERE, compiled, sweep
+
 HOWS = {"EIO": errno.EIO, "EINTR": errno.EINTR, "ENOSPC": errno.ENOSPC, "cut short": 0}
 CALLS = {"r": "read", "w": "write", "p": "pread", "q": "pwrite"}
 LOAD = "--callers 2 --operations 250 --lanes 2 --sets 3 --memory 1 --entries 64 --segments 4 --segment-pages 2 --keys 30 --value-bytes 1000 --gets 50".split()
@@ -31,35 +33,23 @@ FAULTS = (b"file fault\nthe input was not read whole\n", b"file fault\nthe outpu
 LINES = re.compile(rb"calls 500\nhits \d+\nstopped 0\n(accepted 500 calls\n)\Z")
 
 
+def file_fault(ended, usual):
+    """Whether a fault of a file is told behind a part of the usual output."""
+    status, said, errors = ended
+    return "file fault" if status == 3 and errors in FAULTS and usual.startswith(said) else None
+
+
 class Sweep:
     def __init__(self, library, program, folder):
         self.library, self.program, self.folder = library, program, folder
 
-    def run(self, words, at, error, script=None):
-        """The letter of the call that was met, if one was, and how the program ended."""
-        told, tell = os.pipe()
-        environment = {"LD_PRELOAD": self.library, "REFUSE_AT": str(at), "REFUSE_TOLD": str(tell), "REFUSE_ERROR": str(error)}
-        stdin = open(script, "rb") if script else subprocess.DEVNULL
-        ended = subprocess.run([self.program, *words], stdin=stdin, capture_output=True, env=environment, pass_fds=[tell], timeout=60)
-        os.close(tell)
-        met = os.read(told, 1).decode()
-        os.close(told)
-        return met, ended
-
-    def sweep(self, name, words, answer, script=None, patience=1):
+    def sweep(self, name, words, way, **given):
         """Meets each call in turn, and counts the answers by the call and by how it failed."""
         counts = collections.Counter()
         for how, error in HOWS.items():
-            at, idle = 1, 0
-            while idle < patience:
-                met, ended = self.run(words, at, error, script)
-                said = answer(ended)
-                if said is None or not met and said != "as usual":
-                    sys.exit(f"{name}, {how} at {at} ({met}): {ended.returncode} {ended.stdout} {ended.stderr}")
-                if met:
-                    counts[CALLS[met], how, said] += 1
-                idle = 0 if met else idle + 1
-                at += 1
+            fails = {"usual": "as usual", "refuses": {"REFUSE_ERROR": error}}
+            met = sweep(self.library, f"{name}, {how}", [self.program, *words], way, **fails, **given)
+            counts.update((CALLS[letter.decode()], how, said) for letter, said in met)
         print(f"{name}: {sum(counts.values())} met")
         for (call, how, said), count in sorted(counts.items()):
             print(f"    {call} {how}: {said} {count}")
@@ -68,45 +58,38 @@ class Sweep:
         script = os.path.join(HERE, "../examples/second.script")
         usual = subprocess.run([self.program, "script"], stdin=open(script, "rb"), capture_output=True).stdout
 
-        def answer(ended):
-            if (ended.returncode, ended.stdout, ended.stderr) == (0, usual, b""):
-                return "as usual"
-            if ended.returncode == 3 and ended.stderr in FAULTS and usual.startswith(ended.stdout):
-                return "file fault"
-            return None
+        def way(ended):
+            return "as usual" if ended == (0, usual, b"") else file_fault(ended, usual)
 
-        self.sweep("script", ["script"], answer, script)
+        self.sweep("script", ["script"], way, reads=script)
 
     def check(self, trace):
         usual = subprocess.run([self.program, "check", trace], capture_output=True).stdout
 
-        def answer(ended):
-            if (ended.returncode, ended.stdout, ended.stderr) == (0, usual, b""):
+        def way(ended):
+            status, said, errors = ended
+            if ended == (0, usual, b""):
                 return "as usual"
-            if ended.returncode == 2 and not ended.stderr and re.fullmatch(rb"bad trace ReadFault at \d+\n", ended.stdout):
+            if status == 2 and not errors and re.fullmatch(rb"bad trace ReadFault at \d+\n", said):
                 return "ReadFault"
-            if ended.returncode == 3 and ended.stderr in FAULTS and usual.startswith(ended.stdout):
-                return "file fault"
-            return None
+            return file_fault(ended, usual)
 
-        self.sweep("check", ["check", trace], answer)
+        self.sweep("check", ["check", trace], way)
 
     def over_files(self, trace):
         devices = os.path.join(self.folder, "devices")
         os.mkdir(devices)
 
-        def answer(ended):
-            found = LINES.match(ended.stdout)
-            if ended.returncode == 0 and found and not ended.stderr:
+        def way(ended):
+            status, said, errors = ended
+            found = LINES.match(said)
+            if status == 0 and found and not errors:
                 judged = subprocess.run([self.program, "check", trace], capture_output=True)
                 return "as usual" if (judged.returncode, judged.stdout) == (0, found[1]) else None
-            if ended.returncode == 3 and re.fullmatch(rb"file fault\n[^\n]+\n", ended.stderr):
-                return "file fault"
-            return None
+            return "file fault" if status == 3 and re.fullmatch(rb"file fault\n[^\n]+\n", errors) else None
 
         # how many calls there are depends on how the threads run
-        self.sweep("run --device", ["run", "--trace", trace, "--device", devices, *LOAD], answer, patience=20)
-
+        self.sweep("run --device", ["run", "--trace", trace, "--device", devices, *LOAD], way, patience=20)
 
     def soak(self, trace, operations):
         """Fails each hundredth call of the devices of a long run."""
@@ -125,23 +108,21 @@ class Sweep:
 
 
 def main():
-    built = os.path.join(HERE, "../crates/bench_driver/out/bench_driver")
     words = sys.argv[1:]
     operations = words[1] if words[:1] == ["--soak"] else None
     words = words[2:] if operations else words
-    program = os.path.abspath(words[0] if words else built)
+    program = os.path.abspath(words[0] if words else BUILT)
     with tempfile.TemporaryDirectory() as folder:
-        library, trace = os.path.join(folder, "refuse_io.so"), os.path.join(folder, "trace")
-        subprocess.run(["cc", "-shared", "-fPIC", "-O1", "-o", library, os.path.join(HERE, "refuse_io.c")], check=True)
-        sweep = Sweep(library, program, folder)
+        trace = os.path.join(folder, "trace")
+        swept = Sweep(compiled("refuse_io", folder), program, folder)
         if operations:
-            sweep.soak(trace, operations)
+            swept.soak(trace, operations)
             return
-        sweep.script()
-        sweep.over_files(trace)
+        swept.script()
+        swept.over_files(trace)
         # one whole trace of some pieces
         subprocess.run([program, "run", "--trace", trace, "--operations", "100"], capture_output=True, check=True)
-        sweep.check(trace)
+        swept.check(trace)
 
 
 main()

@@ -1,6 +1,8 @@
 /* kangaroo-bench: measures a cache, or a server that speaks memcached's text protocol, under a load. --help says
  * how. */
 #define _GNU_SOURCE
+#include "calls.h"
+#include "opening.h"
 #include "report.h"
 #include "series.h"
 #include "words.h"
@@ -27,30 +29,6 @@ static load load_of(const bench_options *of) {
     memcpy(made.percent, of->percent, sizeof made.percent);
     if (of->replay != NULL) made.replayed = open_trace(of->replay);
     return made;
-}
-
-/* Resolves the options of the cache, or says which word is wrong. */
-static kangaroo_sizes resolve(kangaroo_options *of) {
-    const char *field = NULL;
-    kangaroo_sizes made = {0};
-    kangaroo_status status = kangaroo_options_resolve(of, &field);
-    if (status == KANGAROO_WRONG_OPTIONS && field != NULL) {
-        const char *word = word_of_field(field);
-        refuse_words("%s does not fit the other options: %s. Of the shape's seven words give all or none; --memory has "
-                     "to be enough for the index of --flash", word, right_value(word));
-    }
-    if (status == KANGAROO_OK) status = kangaroo_sizes_of(of, &made, sizeof made);
-    if (status != KANGAROO_OK) refuse_system("the options: %s", kangaroo_strerror(status));
-    return made;
-}
-
-static kangaroo_cache *open_cache(const bench_options *of) {
-    kangaroo_cache *cache = NULL;
-    int cause = 0;
-    kangaroo_status status = kangaroo_open(&of->cache, of->folder, &cache, &cause);
-    if (status == KANGAROO_OK) return cache;
-    refuse_system("no cache in %s: %s%s%s", of->folder, kangaroo_strerror(status), cause != 0 ? ": " : "",
-                  cause != 0 ? strerror(cause) : "");
 }
 
 static void stop_at_signal(int number) {
@@ -119,22 +97,36 @@ static void measure(const bench_options *options, room *in, report *to) {
     end_workers(&of);
     end_connection(control);
     close_trace(of.requests.replayed);
-    if (of.cache != NULL && kangaroo_close(of.cache) != KANGAROO_OK) refuse_system("the cache could not be closed");
+    if (of.cache != NULL) close_cache(of.cache);
+}
+
+static void measure_load(bench_options *options, char *command) {
+    report made = {.command = command, .options = options};
+    if (options->server == NULL) made.sizes = resolve_cache(&options->cache);
+    watch_signals();
+    room taken = new_room();
+    measure(options, &taken, &made);
+    if (options->is_json) print_json_report(&made);
+    else print_text_report(&made);
+    free(taken.states);
+    free(taken.between);
+}
+
+/* Which program the first word asks for. */
+static program program_of(int count, char **words) {
+    const char *first = count > 1 ? words[1] : "";
+    return strcmp(first, "calls") == 0 ? THE_CALLS : strcmp(first, "memory") == 0 ? THE_OPENING : THE_DRIVER;
 }
 
 int main(int count, char **words) {
-    bench_options options = parse_options(THE_DRIVER, count, words);
+    program who = program_of(count, words);
+    int before = who != THE_DRIVER; /* words before the options */
+    bench_options options = parse_options(who, count - before, words + before);
     char *command = command_of(count, words);
-    report made = {.command = command, .options = &options};
-    if (options.server == NULL) made.sizes = resolve(&options.cache);
-    watch_signals();
-    room taken = new_room();
-    measure(&options, &taken, &made);
-    if (options.is_json) print_json_report(&made);
-    else print_text_report(&made);
+    if (who == THE_CALLS) measure_calls(&options);
+    else if (who == THE_OPENING) measure_opening(&options);
+    else measure_load(&options, command);
     if (fflush(stdout) != 0) refuse_system("the report could not be printed: %s", strerror(errno));
-    free(taken.states);
-    free(taken.between);
     free(command);
     return STATUS_RIGHT;
 }

@@ -44,6 +44,7 @@ typedef struct word_row {
 } word_row;
 
 #define BOTH (THE_DRIVER | THE_RIVALS)
+#define OPENED (THE_DRIVER | THE_OPENING)
 #define AT(member) offsetof(bench_options, member)
 enum { OBJECT_MOST = KANGAROO_KEY_MAX + KANGAROO_VALUE_MAX };
 
@@ -72,7 +73,7 @@ static const word_row rows[] = {
     {"--threads", "N", OF_RUN, THE_DRIVER, A_COUNT32, AT(threads), 1, 256, NULL,
      "threads that call, 1 to 256; 1 if not given"},
     {"--seconds", "N", OF_RUN, THE_DRIVER, A_COUNT, AT(seconds), 1, 1e6, NULL, "ends after so many seconds"},
-    {"--operations", "N", OF_RUN, BOTH, A_COUNT, AT(operations), 1, 1e15, NULL,
+    {"--operations", "N", OF_RUN, BOTH | THE_CALLS, A_COUNT, AT(operations), 1, 1e15, NULL,
      "ends after so many gets, puts and removals; a fill belongs to its get"},
     {"--warmup", "N[s]", OF_RUN, BOTH, AN_AMOUNT, AT(warmup), 1, 1e15, NULL,
      "runs before all that so many operations (5M) or seconds (30s), which no figure of after the warm-up "
@@ -81,39 +82,39 @@ static const word_row rows[] = {
      "operations a second, of all threads; latencies then count from the moment that a call was due. As fast as "
      "they go if not given"},
     {"--seed", "N", OF_RUN, BOTH, A_COUNT, AT(seed), 0, 1e18, NULL, "draws another stream; 1 if not given"},
-    {"--folder", "FOLDER", OF_CACHE, THE_DRIVER, A_TEXT, AT(folder), 0, 0, NULL,
+    {"--folder", "FOLDER", OF_CACHE, OPENED | THE_CALLS, A_TEXT, AT(folder), 0, 0, NULL,
      "opens a cache in this folder, which is there; what its files held is lost"},
-    {"--flash", "BYTES", OF_CACHE, BOTH, SOME_BYTES, AT(cache.flash_bytes), 12288, 1e18, "flash_bytes",
+    {"--flash", "BYTES", OF_CACHE, BOTH | THE_OPENING, SOME_BYTES, AT(cache.flash_bytes), 12288, 1e18, "flash_bytes",
      "bytes of files; 1G if not given"},
-    {"--memory", "BYTES", OF_CACHE, BOTH, SOME_BYTES, AT(cache.memory_bytes), 1024, 1e18, "memory_bytes",
+    {"--memory", "BYTES", OF_CACHE, BOTH | THE_OPENING, SOME_BYTES, AT(cache.memory_bytes), 1024, 1e18, "memory_bytes",
      "bytes of memory; 128M if not given"},
-    {"--object-bytes", "N", OF_CACHE, BOTH, A_COUNT32, AT(cache.object_bytes), 1, OBJECT_MOST, "object_bytes",
+    {"--object-bytes", "N", OF_CACHE, BOTH | THE_OPENING, A_COUNT32, AT(cache.object_bytes), 1, OBJECT_MOST, "object_bytes",
      "key and value of a typical object, 1 to 2303; if not given, --key-bytes and the mean of --sizes"},
-    {"--cache-threads", "N", OF_CACHE, THE_DRIVER, A_COUNT32, AT(cache.threads), 1, 4096, "threads",
+    {"--cache-threads", "N", OF_CACHE, OPENED, A_COUNT32, AT(cache.threads), 1, 4096, "threads",
      "callers that the cache is laid out for, 1 to 4096; --threads if not given"},
-    {"--threshold", "N", OF_CACHE, THE_DRIVER, A_COUNT32, AT(cache.threshold), 1, 32, "threshold",
+    {"--threshold", "N", OF_CACHE, OPENED, A_COUNT32, AT(cache.threshold), 1, 32, "threshold",
      "the fewest objects that move to a set together, 1 to 32; worked out from --object-bytes if not given"},
     {"--admit", "PERCENT", OF_CACHE, BOTH, A_NUMBER, AT(admit), 0, 100, "admit",
      "how many of 100 objects that leave memory go to flash; 100 if not given"},
-    {"--bring-back", "N", OF_CACHE, THE_DRIVER, A_COUNT32, AT(cache.bring_back), 0, UINT32_MAX, "bring_back",
+    {"--bring-back", "N", OF_CACHE, OPENED, A_COUNT32, AT(cache.bring_back), 0, UINT32_MAX, "bring_back",
      "of N hits on flash one has its object brought back into memory, 0 for none; 8 if not given"},
-    {"--upkeep-threads", "N", OF_CACHE, THE_DRIVER, A_COUNT32, AT(cache.upkeep_threads), 0, 16, "upkeep_threads",
+    {"--upkeep-threads", "N", OF_CACHE, OPENED, A_COUNT32, AT(cache.upkeep_threads), 0, 16, "upkeep_threads",
      "threads of the cache's own, 0 to 16; 1 if not given"},
-    {"--lease-slots", "N", OF_CACHE, THE_DRIVER, A_COUNT32, AT(cache.lease_slots), 1, 1048576, "lease_slots",
+    {"--lease-slots", "N", OF_CACHE, OPENED, A_COUNT32, AT(cache.lease_slots), 1, 1048576, "lease_slots",
      "lease slots of a lane, 1 to 1048576; worked out if not given"},
-    {"--sparse", NULL, OF_CACHE, THE_DRIVER, A_FLAG, AT(is_sparse), 0, 0, "flags",
+    {"--sparse", NULL, OF_CACHE, OPENED | THE_CALLS, A_FLAG, AT(is_sparse), 0, 0, "flags",
      "does not reserve the files' blocks"},
-    {"--shards", "N", OF_SHAPE, THE_DRIVER, A_COUNT32, AT(cache.shards), 1, 1024, "shards",
+    {"--shards", "N", OF_SHAPE, OPENED, A_COUNT32, AT(cache.shards), 1, 1024, "shards",
      "groups of lanes, 1 to 1024"},
-    {"--lanes", "N", OF_SHAPE, THE_DRIVER, A_COUNT32, AT(cache.lanes), 1, 16, "lanes", "lanes of a shard, 1 to 16"},
-    {"--sets", "N", OF_SHAPE, THE_DRIVER, A_COUNT32, AT(cache.sets), 1, 65536, "sets", "sets of a lane, 1 to 65536"},
-    {"--memory-objects", "N", OF_SHAPE, THE_DRIVER, A_COUNT32, AT(cache.memory_objects), 1, 1048576, "memory_objects",
+    {"--lanes", "N", OF_SHAPE, OPENED, A_COUNT32, AT(cache.lanes), 1, 16, "lanes", "lanes of a shard, 1 to 16"},
+    {"--sets", "N", OF_SHAPE, OPENED, A_COUNT32, AT(cache.sets), 1, 65536, "sets", "sets of a lane, 1 to 65536"},
+    {"--memory-objects", "N", OF_SHAPE, OPENED, A_COUNT32, AT(cache.memory_objects), 1, 1048576, "memory_objects",
      "objects of a lane in memory, 1 to 1048576"},
-    {"--segments", "N", OF_SHAPE, THE_DRIVER, A_COUNT32, AT(cache.segments), 2, 256, "segments",
+    {"--segments", "N", OF_SHAPE, OPENED, A_COUNT32, AT(cache.segments), 2, 256, "segments",
      "segments of a lane's log, 2 to 256"},
-    {"--segment-pages", "N", OF_SHAPE, THE_DRIVER, A_COUNT32, AT(cache.segment_pages), 1, 64, "segment_pages",
+    {"--segment-pages", "N", OF_SHAPE, OPENED, A_COUNT32, AT(cache.segment_pages), 1, 64, "segment_pages",
      "pages of a segment, 1 to 64"},
-    {"--log-objects", "N", OF_SHAPE, THE_DRIVER, A_COUNT32, AT(cache.log_objects), 1, 1048576, "log_objects",
+    {"--log-objects", "N", OF_SHAPE, OPENED, A_COUNT32, AT(cache.log_objects), 1, 1048576, "log_objects",
      "objects that a lane's log can hold, 1 to 1048576"},
     {"--memcached", "SERVER", OF_SERVER, THE_DRIVER, A_TEXT, AT(server), 0, 0, NULL,
      "HOST:PORT or the PATH of a socket, which has a / in it: sends the same stream to a server of memcached's "
@@ -276,12 +277,26 @@ static bool has_rows(program who, word_group group) {
 
 static const char driver_help[] =
     "usage: kangaroo-bench --folder FOLDER (--seconds N | --operations N | --replay FILE) [OPTION]..\n"
-    "       kangaroo-bench --memcached SERVER (--seconds N | --operations N | --replay FILE) [OPTION]..\n\n"
+    "       kangaroo-bench --memcached SERVER (--seconds N | --operations N | --replay FILE) [OPTION]..\n"
+    "       kangaroo-bench calls --folder FOLDER [OPTION]..     what single calls take; calls --help says how\n"
+    "       kangaroo-bench memory --folder FOLDER [OPTION]..    what an opening takes; memory --help says how\n\n"
     "Measures a cache under a load: operations a second, hit ratio, bytes written to flash, memory, latencies.\n"
     "It checks each hit's bytes against its key. It prints the report at the end.\n\n"
     "  kangaroo-bench --folder /flash --flash 64G --memory 4G --keys 1G --distribution zipf:0.9 --threads 8 \\\n"
     "      --warmup 600s --seconds 60 --series run.csv --json > run.json\n"
     "  zstdcat cluster.zst | kangaroo-bench --folder /flash --flash 64G --memory 4G --replay -\n";
+static const char calls_help[] =
+    "usage: kangaroo-bench calls --folder FOLDER [OPTION]..\n\n"
+    "Measures what calls take, through the header, and reads no clock for each: keys of 16 bytes, values of 100,\n"
+    "256 MiB of files and 32 MiB of memory. First one thread: nanoseconds of a put, of a get by the tier that has\n"
+    "the value, of a get of nothing, and of a removal. Then operations a second of 1, 2 and 4 threads: gets alone,\n"
+    "and 70 gets, 28 puts and 2 removals of 100. Then the process's own memory before and after ten times as many\n"
+    "operations. --operations is 1M if not given, and half as many keys are put.\n";
+static const char opening_help[] =
+    "usage: kangaroo-bench memory --folder FOLDER [OPTION]..\n\n"
+    "Opens a cache, and prints the estimate of kangaroo_sizes_of, the memory of the process's own that the opening\n"
+    "took, and both as bits for each object that the sets have room for. Two runs whose shapes differ in one number\n"
+    "show what one set takes, or one place of a log's index. --object-bytes is 116 if not given, --cache-threads 1.\n";
 static const char rivals_help[] =
     "usage: rivals (--operations N | --replay FILE) [OPTION]..\n\n"
     "Simulates two other designs on the stream that kangaroo-bench makes of the same words with one thread:\n"
@@ -299,8 +314,18 @@ static const char rivals_help[] =
     "The program itself takes memory of up to a third of --flash, and with --replay three quarters: sizes may\n"
     "be small.\n";
 
+static const char *help_of(program who) {
+    switch (who) {
+        case THE_DRIVER: return driver_help;
+        case THE_CALLS: return calls_help;
+        case THE_OPENING: return opening_help;
+        case THE_RIVALS: break;
+    }
+    return rivals_help;
+}
+
 static _Noreturn void print_help(program who) {
-    fputs(who == THE_DRIVER ? driver_help : rivals_help, stdout);
+    fputs(help_of(who), stdout);
     for (word_group group = OF_KEYS; group < GROUPS; group++) {
         if (!has_rows(who, group)) continue;
         printf("\n%s\n", headings[group]);
@@ -310,9 +335,8 @@ static _Noreturn void print_help(program who) {
            "Counts take K, M and G after them for 10^3, 10^6 and 10^9; bytes take K, M, G and T for 2^10, 2^20, 2^30 "
            "and 2^40.\n"
            "--word=value is the same as --word value.\n");
-    printf(who == THE_DRIVER
-               ? "Statuses: 0 right; 1 a hit was wrong; 2 bad words; 3 the system, the cache or the server refused.\n"
-               : "Statuses: 0 right; 2 bad words; 3 the system refused.\n");
+    const char *refusing = who == THE_DRIVER ? ", the cache or the server" : who == THE_RIVALS ? "" : " or the cache";
+    printf("Statuses: 0 right; %s2 bad words; 3 the system%s refused.\n", who == THE_DRIVER ? "1 a hit was wrong; " : "", refusing);
     exit(STATUS_RIGHT);
 }
 
@@ -323,9 +347,9 @@ static void refuse_group(const bench_options *of, word_group group, const char *
     if (word != NULL) refuse_words("%s means nothing %s: %s; leave it out", word, beside, why);
 }
 
-static void check_target(const bench_options *of) {
+static void check_target(program who, const bench_options *of) {
     if (of->folder == NULL && of->server == NULL)
-        refuse_words("--folder is missing: name a folder for the cache, or a server by --memcached");
+        refuse_words("--folder is missing: name a folder for the cache%s", who == THE_DRIVER ? ", or a server by --memcached" : "");
     if (of->server == NULL) {
         refuse_group(of, OF_SERVER, "without --memcached", "it is of a connection");
         return;
@@ -356,8 +380,9 @@ static uint32_t typical_object(const bench_options *of) {
     return bytes < OBJECT_MOST ? bytes : OBJECT_MOST;
 }
 
-static void check_driver(bench_options *of) {
-    check_target(of);
+/* Of all programs but the rivals. */
+static void check_cache(program who, bench_options *of) {
+    check_target(who, of);
     if (given_of(of, OF_SHAPE) != NULL) {
         if (is_given(of, "--flash"))
             refuse_words("--flash means nothing beside %s: a shape says all; leave it out", given_of(of, OF_SHAPE));
@@ -367,6 +392,11 @@ static void check_driver(bench_options *of) {
     if (!is_given(of, "--cache-threads")) of->cache.threads = of->threads;
     of->cache.admit = (uint32_t)lround(of->admit * 65536 / 100);
     if (of->is_sparse) of->cache.flags |= KANGAROO_SPARSE;
+}
+
+static void check_calls(bench_options *of) {
+    if (!is_given(of, "--operations")) of->operations = 1000000;
+    if (of->operations < 1000) refuse_words("--operations is below 1,000: that is too few for some of the figures");
 }
 
 static void check_rivals(const bench_options *of) {
@@ -392,11 +422,12 @@ bench_options parse_options(program who, int count, char **words) {
     for (int i = 1; i < count; i++)
         if (strcmp(words[i], "--help") == 0 || strcmp(words[i], "-h") == 0) print_help(who);
     for (int at = 1; at < count;) at = read_word(who, at, count, words, &read);
-    check_limits(&read);
+    if (who & BOTH) check_limits(&read);
     check_load(&read);
     if (!is_given(&read, "--object-bytes")) read.cache.object_bytes = typical_object(&read);
-    if (who == THE_DRIVER) check_driver(&read);
-    else check_rivals(&read);
+    if (who == THE_RIVALS) check_rivals(&read);
+    else check_cache(who, &read);
+    if (who == THE_CALLS) check_calls(&read);
     set_keys(&read.drawn, read.keys);
     return read;
 }

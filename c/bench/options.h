@@ -1,4 +1,5 @@
-/* options.h: the words of kangaroo-bench and of rivals. Each program takes some of them. */
+/* options.h: the words of kangaroo-bench, of its commands calls and memory, and of rivals. Each of these programs takes some of
+ * them. */
 #ifndef BENCH_OPTIONS_H
 #define BENCH_OPTIONS_H
 
@@ -7,7 +8,7 @@
 #include "sizes.h"
 #include "traces.h"
 
-typedef enum program { THE_DRIVER = 1, THE_RIVALS = 2 } program;
+typedef enum program { THE_DRIVER = 1, THE_RIVALS = 2, THE_CALLS = 4, THE_OPENING = 8 } program;
 
 /* A length of time or a number of operations. */
 typedef struct amount {

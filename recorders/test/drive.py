@@ -1,35 +1,14 @@
 """Drives the Python recorder: `drive.py calls PORT OUT` over memcached, `drive.py table OUT ONE_OF` over a table. test/run says what."""
 import os
-import socket
 import sys
 import threading
 
 sys.dont_write_bytecode = True
-sys.path.insert(0, os.path.join(os.path.dirname(os.path.abspath(__file__)), "..", "python"))
+ROOT = os.path.join(os.path.dirname(os.path.abspath(__file__)), "..", "..")
+sys.path[:0] = [os.path.join(ROOT, "recorders", "python"), os.path.join(ROOT, "examples", "memcached")]
+from cache_aside import Client
 from recorded_client import DoesNotWait, RecordedClient
 from recorder import Recorder
-
-
-class Client:
-    """Has pymemcache's get, set and delete, and waits for answers."""
-    def __init__(self, port):
-        self.stream = socket.create_connection(("127.0.0.1", port)).makefile("rwb")
-        self.default_noreply = False
-
-    def ask(self, request):
-        self.stream.write(request)
-        self.stream.flush()
-        return self.stream.readline().split()
-
-    def get(self, key):
-        answer = self.ask(b"get %s\r\n" % key)
-        return None if answer == [b"END"] else self.stream.read(int(answer[3]) + 7)[:-7]
-
-    def set(self, key, value, expire=0, noreply=None):
-        return self.ask(b"set %s 0 %d %d\r\n%s\r\n" % (key, expire, len(value), value)) == [b"STORED"]
-
-    def delete(self, key, noreply=None):
-        return self.ask(b"delete %s\r\n" % key) == [b"DELETED"]
 
 
 def work(recorder, port, seed):

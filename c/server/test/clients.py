@@ -3,10 +3,9 @@ import os
 import pathlib
 import re
 import socket
-import threading
 import time
 
-from harness import IS_QUICK, Client, equal, expect, free_port, grew_little, have_descriptors, server, shows, wait_for
+from harness import IS_QUICK, Client, all_at_once, equal, expect, free_port, grew_little, have_descriptors, server, shows, wait_for
 
 MANY = int(os.environ.get("MANY", "1000"))
 
@@ -157,10 +156,6 @@ def at_once():
     with server("-t", "4") as it:
         first = it.client()
         first.ask(b"set n 0 0 1\r\n0\r\nset c 0 0 8\r\n00000000\r\n", b"STORED\r\nSTORED\r\n")
-        threads = [threading.Thread(target=count, args=(it,)) for _ in range(8)]
-        for thread in threads:
-            thread.start()
-        for thread in threads:
-            thread.join()
+        all_at_once([lambda: count(it)] * 8)
         first.ask(b"incr n 0\r\n", b"%d\r\n" % (8 * rounds))
         first.ask(b"get c\r\n", b"VALUE c 0 8\r\n%08d\r\nEND\r\n" % (8 * rounds))

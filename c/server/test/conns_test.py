@@ -4,7 +4,7 @@ import resource
 import threading
 import time
 
-from harness import IS_QUICK, MORE, Client, Skipped, equal, expect, have_descriptors, server, shows
+from harness import IS_QUICK, MORE, Client, Skipped, all_at_once, equal, expect, have_descriptors, server, shows, wait_for
 
 ASKERS = int(os.environ.get("ASKERS", "500" if IS_QUICK else "4000"))
 NAMES = ["addr", "listen_addr", "state", "secs_since_last_cmd"]
@@ -42,18 +42,15 @@ def each_once():
         for client in clients[10:]:
             client.close()
         clients[2].ask(b"mn\r\n", b"MN\r\n")
-        ends = time.monotonic() + 20
-        while len(asked(clients[2])) != 11:
-            expect(time.monotonic() < ends, "those that have left are shown no more")
+        wait_for(lambda: len(asked(clients[2])) == 11, "those that have left are shown no more")
 
 
 @shows("while clients come and go, stats conns shows each that stays once, and no socket twice or in half")
 def while_others_come_and_go():
     ends = time.monotonic() + (1 if IS_QUICK else 5)
-    faults = []
 
     def come_and_go(it):
-        while time.monotonic() < ends and not faults:
+        while time.monotonic() < ends:
             others = [it.client() for _ in range(20)]
             for other in others[::2]:
                 other.send(b"mn\r\n")
@@ -61,26 +58,17 @@ def while_others_come_and_go():
                 other.close()
 
     def ask(it, stay):
-        try:
-            client = it.client()
-            while time.monotonic() < ends and not faults:
-                shown = asked(client)
-                expect(len(shown) == len(set(shown)) and stay <= set(shown), "those that stay, and none twice")
-        except AssertionError as fault:
-            faults.append(fault)
+        client = it.client()
+        while time.monotonic() < ends:
+            shown = asked(client)
+            expect(len(shown) == len(set(shown)) and stay <= set(shown), "those that stay, and none twice")
 
     with server() as it:
         stay = [it.client() for _ in range(50)]
         for client in stay:
             client.ask(b"mn\r\n", b"MN\r\n")
         numbers = set(asked(stay[0]))
-        threads = [threading.Thread(target=come_and_go, args=(it,)) for _ in range(2)]
-        threads += [threading.Thread(target=ask, args=(it, numbers)) for _ in range(2)]
-        for thread in threads:
-            thread.start()
-        for thread in threads:
-            thread.join()
-        equal(faults, [], "faults")
+        all_at_once([lambda: come_and_go(it), lambda: ask(it, numbers)] * 2)
 
 
 def waits_of_gets(it, seconds):

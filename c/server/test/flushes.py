@@ -1,8 +1,7 @@
 """flush_all, at once and later, beside other commands; and expiry."""
-import threading
 import time
 
-from harness import equal, expect, server, shows
+from harness import all_at_once, equal, expect, server, shows
 
 
 @shows("flush_all hides all items of before, and none of after; -F refuses it")
@@ -47,34 +46,26 @@ def expiry():
 @shows("numbers that others increment through flushes never come back from before a flush")
 def beside_increments():
     ends = time.monotonic() + 2
-    faults = []
 
     def increment(it):
         client = it.client()
-        while time.monotonic() < ends and not faults:
+        while time.monotonic() < ends:
             client.send(b"add n 0 0 1\r\n0\r\nincr n 1\r\n")
             client.take_to(b"\r\n")
             client.take_to(b"\r\n")
 
     def flush(it):
         client = it.client()
-        while time.monotonic() < ends and not faults:
+        while time.monotonic() < ends:
             client.ask(b"set n 0 0 7\r\n1000000\r\nincr n 0\r\n", b"STORED\r\n")
             client.take_to(b"\r\n")
             client.ask(b"flush_all\r\n", b"OK\r\n")
             client.send(b"incr n 0\r\n")
             answer = client.take_to(b"\r\n")
-            if answer != b"NOT_FOUND\r\n" and int(answer) >= 1000000:
-                faults.append(answer)
+            expect(answer == b"NOT_FOUND\r\n" or int(answer) < 1000000, f"a number of before a flush: {answer}")
 
     with server("-t", "4") as it:
-        threads = [threading.Thread(target=increment, args=(it,)) for _ in range(4)]
-        threads.append(threading.Thread(target=flush, args=(it,)))
-        for thread in threads:
-            thread.start()
-        for thread in threads:
-            thread.join()
-        equal(faults, [], "numbers of before a flush")
+        all_at_once([lambda: increment(it)] * 4 + [lambda: flush(it)])
 
 
 @shows("numbers of items grow, also over a restart")

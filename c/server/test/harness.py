@@ -1,4 +1,5 @@
 """What the tests of kangarood share: a server of their own in a new folder, clients, and the list of tests."""
+import concurrent.futures
 import contextlib
 import os
 import pathlib
@@ -61,6 +62,13 @@ def wait_for(is_so, what):
     while not is_so():
         expect(time.monotonic() < ends, what)
         time.sleep(0.01)
+
+
+def all_at_once(calls):
+    """Makes calls, each in a thread of its own, and waits for all. Fails the test if one fails."""
+    with concurrent.futures.ThreadPoolExecutor(len(calls)) as threads:
+        for made in [threads.submit(it) for it in calls]:
+            made.result()
 
 
 def have_descriptors(count):
@@ -164,6 +172,15 @@ class Client:
     def close(self):
         """Closes it."""
         self.socket.close()
+
+
+def listens(address):
+    """Whether somebody listens at an address."""
+    try:
+        Client(address).close()
+        return True
+    except OSError:
+        return False
 
 
 class Server:

@@ -13,7 +13,7 @@ import tempfile
 import threading
 import time
 
-from harness import IS_QUICK, PATIENCE, PROGRAM, Client, Server, Skipped, equal, expect, free_port, shows, usual_words, wait_for
+from harness import IS_QUICK, PATIENCE, PROGRAM, Client, Server, Skipped, equal, expect, free_port, listens, shows, usual_words, wait_for
 
 ENDS = (signal.SIGTERM, signal.SIGKILL)
 HELLO = (b"set a 0 0 1\r\nx\r\nget a\r\n", b"STORED\r\nVALUE a 0 1\r\nx\r\nEND\r\n")
@@ -55,15 +55,6 @@ def is_served(address):
     client = Client(address)
     client.ask(*HELLO)
     client.close()
-
-
-def answers(address):
-    """Whether somebody listens there."""
-    try:
-        Client(address).close()
-        return True
-    except OSError:
-        return False
 
 
 def refused(wanted, *words):
@@ -219,7 +210,7 @@ def with_a_link(*under, owner=None):
         for path in (at, f"{at}/cache") if owner else ():
             shutil.chown(path, owner)
         with started("-P", link, "-s", f"{at}/socket", "--folder", f"{at}/cache", under=under, wait=False) as it:
-            wait_for(lambda: answers(f"{at}/socket") and not os.path.islink(link), "it serves, and the link is replaced")
+            wait_for(lambda: listens(f"{at}/socket") and not os.path.islink(link), "it serves, and the link is replaced")
             equal(pathlib.Path(victim).read_text(encoding="ascii"), "mine", "what the link led to")
             equal(pathlib.Path(link).read_text(encoding="ascii"), f"{it.process.pid}\n", "the pid file")
             equal(it.stop(), 0, "the status")
@@ -275,7 +266,7 @@ def as_root():
         for words, address in (((), f"{at}/run/socket"), (("-p", str(port := low_port())), ("127.0.0.1", port))):
             where = words or ("-s", address)
             with started("-v", "-u", "nobody", "--folder", f"{at}/cache", "-P", f"{at}/run/pid", *where, wait=False) as it:
-                wait_for(lambda: answers(address) and os.path.exists(f"{at}/run/pid"), "it serves")  # noqa: B023
+                wait_for(lambda: listens(address) and os.path.exists(f"{at}/run/pid"), "it serves")  # noqa: B023
                 is_served(address)
                 owners = {os.stat(f"{at}/cache/{name}").st_uid for name in os.listdir(f"{at}/cache")}
                 equal(owners, {pwd.getpwnam("nobody").pw_uid}, "the owner of the cache's files")

@@ -7,9 +7,8 @@ import signal
 import socket
 import stat
 import subprocess
-import time
 
-from harness import PATIENCE, PROGRAM, Client, Server, Skipped, equal, expect, free_port, run_words, server, shows, usual_words
+from harness import PATIENCE, PROGRAM, Client, Server, Skipped, equal, expect, free_port, listens, run_words, server, shows, usual_words, wait_for
 
 
 @shows("SIGTERM, SIGINT and SIGUSR1 end it with status 0, and its socket and pid file are gone; SIGHUP and SIGPIPE do not")
@@ -143,7 +142,7 @@ def users():
     shutil.chown(it.folder, "nobody")
     it = subprocess.Popen([PROGRAM["kangarood"], "--folder", it.folder, "--sparse", "--flash", "8M", "-u", "nobody", "-s", f"{it.folder}/s"])
     try:
-        wait_for_socket(it.args[-1])
+        wait_for(lambda: listens(it.args[-1]), "it listens")
         Client(it.args[-1]).ask(b"mn\r\n", b"MN\r\n")
         uids = pathlib.Path(f"/proc/{it.pid}/status").read_text(encoding="ascii").split("Uid:")[1].split("\n")[0].split()
         equal(set(uids), {str(pwd.getpwnam("nobody").pw_uid)}, "its user")
@@ -151,18 +150,6 @@ def users():
         it.terminate()
         equal(it.wait(PATIENCE), 0, "status")
         shutil.rmtree(os.path.dirname(it.args[-1]), ignore_errors=True)
-
-
-def wait_for_socket(path):
-    """Waits until something listens there."""
-    ends = time.monotonic() + PATIENCE
-    while time.monotonic() < ends:
-        try:
-            Client(path).close()
-            return
-        except OSError:
-            time.sleep(0.01)
-    raise AssertionError(f"nobody listens at {path}")
 
 
 @shows("-d: the program ends once clients are served, with status 0, or with the status of a start that failed")
@@ -179,10 +166,7 @@ def daemon():
         equal(again.returncode, 71, "the status of one that is refused its folder")
         expect(b"another cache has this folder" in again.stderr, again.stderr)
         os.kill(pid, signal.SIGTERM)
-        ends = time.monotonic() + PATIENCE
-        while os.path.exists(f"{folder}/socket") or os.path.exists(f"/proc/{pid}/exe"):
-            expect(time.monotonic() < ends, "it ends")
-            time.sleep(0.01)
+        wait_for(lambda: not os.path.exists(f"{folder}/socket") and not os.path.exists(f"/proc/{pid}/exe"), "it ends")
 
 
 def handed_over(listener, words):

@@ -3,8 +3,6 @@ of what was seen and whether it was as it has to be."""
 import contextlib
 import http.client
 import http.server
-import os
-import socket
 import subprocess
 import threading
 import time
@@ -54,18 +52,12 @@ NUTCRACKER = """cache:
 """
 
 
-def listens(port):
-    """Whether somebody listens at a port."""
-    with socket.socket() as it:
-        return it.connect_ex(("127.0.0.1", port)) == 0
-
-
 @contextlib.contextmanager
 def running(words, port):
     """A program that listens at a port."""
     process = subprocess.Popen(words, stdin=subprocess.DEVNULL, stdout=subprocess.DEVNULL, stderr=subprocess.DEVNULL)
     try:
-        harness.wait_for(lambda: listens(port), f"{words[0]} listens at {port}")
+        harness.wait_for(lambda: harness.listens(("127.0.0.1", port)), f"{words[0]} listens at {port}")
         yield process
     finally:
         process.terminate()

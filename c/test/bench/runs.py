@@ -6,6 +6,7 @@ usage: runs.py FOLDER       FOLDER has kangaroo-bench, kangaroo-bench-lies and r
 import csv
 import json
 import os
+import re
 import shutil
 import socket
 import subprocess
@@ -111,6 +112,12 @@ DRIVER_REFUSALS = [
     (["--folder", "F", "--replay", "T", "--keys", "5"], "--keys means nothing beside --replay"),
     (["--folder", "F", "--replay", "T", "--mix", "100:0:0"], "--mix means nothing beside --replay"),
     (["--folder", "F", "--replay", "no-such-file"], "--replay no-such-file: No such file"),
+    (["calls"], "--folder is missing"),
+    (["calls", "--folder", "F", "--operations", "999"], "--operations is below 1,000"),
+    (["calls", "--folder", "F", "--flash", "1G"], "--flash is no option"),
+    (["memory"], "--folder is missing"),
+    (["memory", "--folder", "F", *LIMIT], "--operations is no option"),
+    (["memory", "--folder", "F", "--lanes", "4"], "does not fit the other options"),
 ]
 RIVALS_REFUSALS = [
     ([], "nothing ends the run"),
@@ -129,8 +136,8 @@ def test_refusals(bench):
         bench.refused(2, said, "rivals", *words)
     bench.refused(3, "no cache in", "kangaroo-bench", "--folder", bench.path("none"), *SMALL, *LIMIT)
     bench.refused(3, "no connection to", "kangaroo-bench", "--memcached", bench.path("none"), *LIMIT)
-    for program in ("kangaroo-bench", "rivals"):
-        done = bench.run(program, "--help")
+    for program in ("kangaroo-bench", "kangaroo-bench calls", "kangaroo-bench memory", "rivals"):
+        done = bench.run(*program.split(), "--help")
         expect(done.returncode == 0 and done.stdout.startswith(f"usage: {program} "), f"{program} --help")
         expect(max(len(line) for line in done.stdout.splitlines()) <= 120, f"{program} --help has a line of more than 120 columns")
     show(f"{len(DRIVER_REFUSALS) + len(RIVALS_REFUSALS)} commands with bad words are refused, each by name; a folder and a server that are not there too")
@@ -219,6 +226,20 @@ def test_series(bench):
         expect(float(row["get_p50_us"]) <= float(row["get_p99_us"]) <= float(row["get_most_us"]), "percentiles of a second rise")
     bench.refused(2, "--series /no/such/folder: No such file", "kangaroo-bench", "--folder", bench.cache, *SMALL, *LIMIT, "--series", "/no/such/folder")
     show(f"a series of {len(rows)} seconds")
+
+
+def test_commands(bench):
+    done = bench.run("kangaroo-bench", "calls", "--folder", bench.cache, "--sparse", "--operations", "20K")
+    expect(done.returncode == 0, f"calls: status {done.returncode}, {done.stderr.strip()}")
+    for line in ("put ", "upkeep left ", "get in memory ", "get in the log ", "get of nothing ", "removal ", "gets  *4 threads: ",
+                 "gets and puts  *2 threads: ", "own memory .* after 200000 operations", "  puts  *[1-9]"):
+        expect(re.search(f"^{line}", done.stdout, re.M), f"calls prints no line {line!r}")
+    done = bench.run("kangaroo-bench", "memory", "--folder", bench.cache, *SMALL)
+    numbers = re.match(r"\d+ lanes of \d+ sets: estimated (\d+) bytes, measured (\d+)\nbits an object of the sets: .*\n\Z", done.stdout)
+    expect(done.returncode == 0 and numbers, f"memory: status {done.returncode}, {done.stdout}{done.stderr}")
+    # a sanitizer makes what is measured more
+    expect(0 < int(numbers[1]) < 2 * int(numbers[2]), "what an opening takes is at least half of the estimate")
+    show("what calls and an opening take")
 
 
 # ------------------------------------------------------------------------------------------------------------ traces
@@ -433,7 +454,7 @@ def test_plots(bench):
     show("five kinds of plot")
 
 
-TESTS = [test_refusals, test_runs, test_sameness, test_series, test_traces, test_bad_traces, test_server, test_memcached,
+TESTS = [test_refusals, test_runs, test_sameness, test_series, test_commands, test_traces, test_bad_traces, test_server, test_memcached,
          test_wrong_hits, test_rivals, test_plots]
 
 
