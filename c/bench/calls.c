@@ -184,11 +184,11 @@ void measure_calls(const bench_options *of) {
     bench_puts(&measured);
     bench_gets(&measured);
     bench_removals(&measured);
-    close_cache(measured.cache);
+    end_cache(measured.cache);
     measured.cache = open_for_calls(*of, 1);
     for (uint64_t key = 0; key < measured.keys; key++) put(&measured, key);
     bench_threads(&measured, "gets", 0);
     bench_threads(&measured, "gets and puts", 30);
     bench_memory(&measured);
-    close_cache(measured.cache);
+    end_cache(measured.cache);
 }

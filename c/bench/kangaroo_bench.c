@@ -97,7 +97,7 @@ static void measure(const bench_options *options, room *in, report *to) {
     end_workers(&of);
     end_connection(control);
     close_trace(of.requests.replayed);
-    if (of.cache != NULL) close_cache(of.cache);
+    if (of.cache != NULL) end_cache(of.cache);
 }
 
 static void measure_load(bench_options *options, char *command) {

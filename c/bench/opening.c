@@ -28,7 +28,7 @@ kangaroo_cache *open_cache(const bench_options *of) {
                   cause != 0 ? strerror(cause) : "");
 }
 
-void close_cache(kangaroo_cache *of) {
+void end_cache(kangaroo_cache *of) {
     if (kangaroo_close(of) != KANGAROO_OK) refuse_system("the cache could not be closed");
 }
 
@@ -42,5 +42,5 @@ void measure_opening(bench_options *of) {
     if (room.set_objects > 0)
         printf("bits an object of the sets: estimated %.1f, measured %.1f\n",
                8.0 * (double)room.memory_fixed / (double)room.set_objects, 8.0 * (double)taken / (double)room.set_objects);
-    close_cache(cache);
+    end_cache(cache);
 }

@@ -8,7 +8,7 @@
 kangaroo_sizes resolve_cache(kangaroo_options *of);
 /* Opens the cache of resolved options, or refuses. */
 kangaroo_cache *open_cache(const bench_options *of);
-void close_cache(kangaroo_cache *of);
+void end_cache(kangaroo_cache *of);
 
 /* Opens a cache, and prints the estimate of kangaroo_sizes_of, the memory of the process's own that the opening took, and
  * both as bits for each object that the sets have room for. */

@@ -231,7 +231,7 @@ def test_series(bench):
 def test_commands(bench):
     done = bench.run("kangaroo-bench", "calls", "--folder", bench.cache, "--sparse", "--operations", "20K")
     expect(done.returncode == 0, f"calls: status {done.returncode}, {done.stderr.strip()}")
-    for line in ("put ", "upkeep left ", "get in memory ", "get in the log ", "get of nothing ", "removal ", "gets  *4 threads: ",
+    for line in ("put ", "upkeep left ", "get in memory ", "get of nothing ", "removal ", "gets  *4 threads: ",
                  "gets and puts  *2 threads: ", "own memory .* after 200000 operations", "  puts  *[1-9]"):
         expect(re.search(f"^{line}", done.stdout, re.M), f"calls prints no line {line!r}")
     done = bench.run("kangaroo-bench", "memory", "--folder", bench.cache, *SMALL)
