@@ -72,6 +72,18 @@ def is_no_number(it):
     return NO_NUMBER in it.ours and NO_NUMBER not in it.theirs or it.command.is_quiet and stored and not re.fullmatch(rb"\d+ *", stored[1])
 
 
+def is_beyond_end(it):
+    """A number of 2^63 or more that memcached refuses, since a minus sign stands in memory after the item."""
+    stored = re.search(rb"\r\n(\d{19,20}) *\r\n\Z", it.their_state)
+    return NO_NUMBER in it.theirs and NO_NUMBER not in it.ours and stored and int(stored[1]) >= 2 ** 63
+
+
+def is_older_number(it):
+    """An ms or md with I whose number is above the item's in one server and below it in the other. In silence HD is not said."""
+    answers = [b"HD" if it.command.is_quiet and not answer else answer[:2] for answer in (it.their_answer, it.our_answer)]
+    return re.search(rb" I", it.line) and re.search(rb" C\d", it.line) and set(answers) == {b"EX", b"HD"}
+
+
 def is_lost_expiry(it):
     """An ma with T, after which the items are the same but for the expiry and the marks, or this one has expired."""
     if not re.match(rb"ma .* T", it.line) or is_error(it.ours) or is_error(it.theirs):
@@ -116,8 +128,8 @@ ANNOUNCED = [
     ("ma with q answers nothing of an item that it makes too", lambda it: it.line.startswith(b"ma") and it.command.is_quiet and b" N" in it.line
      and it.our_answer == b"" and it.their_answer[:2] in (b"HD", b"VA")),
     ("a line has at most 2,048 bytes", lambda it: b"CLIENT_ERROR line too long" in it.ours),
-    ("numbers of items begin at the wall clock", lambda it: re.search(rb" I", it.line) and re.search(rb" C\d", it.line)
-     and {it.their_answer[:2], it.our_answer[:2]} == {b"EX", b"HD"}),
+    ("numbers of items begin at the wall clock", is_older_number),
+    ("memcached looks for a minus sign after the item's end too", is_beyond_end),
     ("memcached loses the T of an ma that makes a number longer", is_lost_expiry),
     ("t of an item that has expired is 0", lambda it: re.sub(rb" t4294\d+", b" t0", it.their_answer) == it.our_answer != it.their_answer),
     ("t tells the expiry that a new item has",

@@ -101,7 +101,7 @@ fn is_numbered(record: &TakenRecord, number: u8) -> bool {
         page: number / 64,
         slot: number % 64,
     };
-    record.stored.key.bytes() == [b'0' + number].as_slice() && record.place == place
+    record.stored.key.bytes() == [b'0'.wrapping_add(number)].as_slice() && record.place == place
 }
 
 // Whether these are the 32 newest of the 65 records, newest first.
