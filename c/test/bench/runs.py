@@ -444,14 +444,15 @@ def test_plots(bench):
         expect(done.returncode == 3 and "python3-matplotlib" in done.stderr, "plot.py says what it needs")
         show("plot.py says that it needs matplotlib, which is not here: no plot was drawn")
         return
-    for kind in ("hit-ratio-by-memory", "write-amplification", "latency", "throughput", "hit-ratio-over-time"):
-        done = subprocess.run([*plot, kind, svg, series if kind == "hit-ratio-over-time" else report], capture_output=True, text=True)
+    others = {"hit-ratio-over-time": series, "server-bars": os.path.join(ROOT, "docs/benchmarks/server-bars.csv")}
+    for kind in ("hit-ratio-by-memory", "write-amplification", "latency", "gets-by-threads", *others):
+        done = subprocess.run([*plot, kind, svg, others.get(kind, report)], capture_output=True, text=True)
         expect(done.returncode == 0, f"plot.py {kind}: {done.stderr.strip()}")
         with open(svg) as file:
             expect("<svg" in file.read(), f"plot.py {kind} writes an SVG")
     done = subprocess.run([*plot, "latency", svg, series], capture_output=True, text=True)
     expect(done.returncode == 2 and "is no report" in done.stderr, "plot.py refuses a file that is no report")
-    show("five kinds of plot")
+    show("six kinds of plot")
 
 
 TESTS = [test_refusals, test_runs, test_sameness, test_series, test_commands, test_traces, test_bad_traces, test_server, test_memcached,
