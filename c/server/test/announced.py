@@ -17,9 +17,16 @@ def without_lifetime(answer):
     return re.sub(rb"^((?:VA|HD)[^\r]*?) t\S+", rb"\1", answer, flags=re.M)
 
 
+def lifetimes(answer):
+    """The flags t of answers, as numbers."""
+    return [int(it) for it in re.findall(rb"(?m)^(?:VA|HD)[^\r]*? t(-?\d+)", answer)]
+
+
 def is_longer_number(it):
-    """A number that got shorter: memcached counts by data of another length."""
-    return it.theirs != it.ours and squeezed(it.theirs) == squeezed(it.ours)
+    """A number that got shorter: memcached counts by data of another length. Between both a second may have ended."""
+    both = list(zip(lifetimes(it.theirs), lifetimes(it.ours)))
+    theirs, ours = (squeezed(without_lifetime(answer)) for answer in (it.theirs, it.ours))
+    return it.theirs != it.ours and theirs == ours and all(abs(one - other) <= 2 for one, other in both)
 
 
 def is_error(answer):
@@ -56,6 +63,8 @@ def is_too_long(it):
     """A value that is too long here, or in silence was."""
     stored = re.match(rb"VA (\d+) ", it.their_state)
     is_long = stored and int(stored[1]) > 2030
+    if it.command.family == "get" and re.sub(rb"(?s)VALUE \S+ \d+ 203\d\r\n.{2030,2039}\r\n", b"", it.theirs) == it.ours != it.theirs:
+        return True
     return b"too large for cache" in it.ours and b"too large" not in it.theirs or is_long and it.our_state != it.their_state
 
 
@@ -84,12 +93,19 @@ def is_older_number(it):
     return re.search(rb" I", it.line) and re.search(rb" C\d", it.line) and set(answers) == {b"EX", b"HD"}
 
 
+def is_mark_lost(theirs, ours):
+    """Whether the one has none of the marks of the other, and all else is the same."""
+    return not re.search(MARKS, theirs) and theirs == re.sub(MARKS, rb"\1", ours)
+
+
 def is_lost_expiry(it):
     """An ma with T, after which the items are the same but for the expiry and the marks, or this one has expired."""
-    if not re.match(rb"ma .* T", it.line) or is_error(it.ours) or is_error(it.theirs):
+    found = re.match(rb" *ma .* T\+?(-|\d+)", it.line)
+    if not found or is_error(it.ours) or is_error(it.theirs):
         return False
+    has_passed = found[1] == b"-" or int(found[1]) % 2 ** 32 >= 2 ** 31
     theirs, ours = (re.sub(rb"(?m)^(VA[^\r]*?)( [WXZ])*\r", rb"\1\r", without_lifetime(state)) for state in (it.their_state, it.our_state))
-    return squeezed(theirs) == squeezed(ours) or re.search(rb" T-", it.line) and ours.startswith(b"EN")
+    return squeezed(theirs) == squeezed(ours) or has_passed and ours.startswith(b"EN")
 
 
 def is_refused_by_name(it):
@@ -125,17 +141,17 @@ ANNOUNCED = [
     ("memcached takes other bytes beside a number's digits", is_no_number),
     ("an item without data is compared before it is found to be no number",
      lambda it: it.our_answer.startswith(b"EX") and NO_NUMBER in it.theirs),
-    ("ma with q answers nothing of an item that it makes too", lambda it: it.line.startswith(b"ma") and it.command.is_quiet and b" N" in it.line
+    ("ma with q answers nothing of an item that it makes too", lambda it: re.match(rb" *ma ", it.line) and it.command.is_quiet and b" N" in it.line
      and it.our_answer == b"" and it.their_answer[:2] in (b"HD", b"VA")),
     ("a line has at most 2,048 bytes", lambda it: b"CLIENT_ERROR line too long" in it.ours),
     ("numbers of items begin at the wall clock", is_older_number),
     ("memcached looks for a minus sign after the item's end too", is_beyond_end),
     ("memcached loses the T of an ma that makes a number longer", is_lost_expiry),
-    ("t of an item that has expired is 0", lambda it: re.sub(rb" t4294\d+", b" t0", it.their_answer) == it.our_answer != it.their_answer),
+    ("t of an item that has expired is 0", lambda it: re.sub(rb" t4294\d+", b" t0", it.theirs) == it.ours != it.theirs),
     ("t tells the expiry that a new item has",
      lambda it: b" N" in it.line and without_lifetime(it.theirs) == without_lifetime(it.ours)),
     ("the marks stale and won stay if a number gets longer",
-     lambda it: not re.search(MARKS, it.theirs) and it.theirs == re.sub(MARKS, rb"\1", it.ours)),
+     lambda it: is_mark_lost(it.theirs, it.ours) or it.their_answer == it.our_answer and is_mark_lost(it.their_state, it.our_state)),
     ("a line whose last word begins with HTTP/ closes, and so does the byte 0x80", lambda it: b"HTTP/" in it.line or it.line.startswith(b"\x80")),
     ("watch, lru_crawler, slabs, lru, cache_memlimit, bget are not served",
      lambda it: it.command.family == "line" and re.match(rb"watch|lru|slabs|cache_memlimit|bget|extstore", it.line)),
