@@ -1,6 +1,7 @@
 """Which differences between memcached and kangarood docs/SERVER.md announces, each with the sentence that does. beside-memcached gives
 cases: a command with its faults, and both answers to it."""
 import re
+import time
 
 BAD_LINE, NO_NUMBER = b"CLIENT_ERROR bad command line format", b"CLIENT_ERROR cannot increment or decrement non-numeric value"
 MARKS = rb"(?m)^((?:VA|HD|EN)[^\r]*?)((?: [WXZ])+)(?= |\r)"
@@ -25,7 +26,8 @@ def lifetimes(answer):
 def is_longer_number(it):
     """A number that got shorter: memcached counts by data of another length. Between both a second may have ended."""
     both = list(zip(lifetimes(it.theirs), lifetimes(it.ours)))
-    theirs, ours = (squeezed(without_lifetime(answer)) for answer in (it.theirs, it.ours))
+    our_answers = it.ours if re.search(MARKS, it.theirs) else re.sub(MARKS, rb"\1", it.ours)
+    theirs, ours = (squeezed(without_lifetime(answer)) for answer in (it.theirs, our_answers))
     return it.theirs != it.ours and theirs == ours and all(abs(one - other) <= 2 for one, other in both)
 
 
@@ -103,7 +105,8 @@ def is_lost_expiry(it):
     found = re.match(rb" *ma .* T\+?(-|\d+)", it.line)
     if not found or is_error(it.ours) or is_error(it.theirs):
         return False
-    has_passed = found[1] == b"-" or int(found[1]) % 2 ** 32 >= 2 ** 31
+    low = -1 if found[1] == b"-" else int(found[1]) % 2 ** 32
+    has_passed = low < 0 or low >= 2 ** 31 or 2592000 < low < time.time()
     theirs, ours = (re.sub(rb"(?m)^(VA[^\r]*?)( [WXZ])*\r", rb"\1\r", without_lifetime(state)) for state in (it.their_state, it.our_state))
     return squeezed(theirs) == squeezed(ours) or has_passed and ours.startswith(b"EN")
 
