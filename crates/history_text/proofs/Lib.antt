@@ -8,3 +8,4 @@ mod WordTexts
 mod LineTexts
 mod ReadBack
 mod Saying
+pub mod public_laws

@@ -20,11 +20,12 @@ use Rattle.history_text.specs.declared.read_text_fault.ReadTextFault.{ReadTextFa
 use Rattle.history_text.specs.declared.read_text_fault.ReadTextFault.TheVariants.{Bad, OutOfMemory, ReadFault}
 use Rattle.history_text.specs.Outcome.{fault_at, of_read_line}
 use Rattle.history_text.specs.Laws.{TextsAreSpelled}
-use Rattle.history_text.specs.Pieces.{GoesOn, IsBadFrom, IsFaultFrom, LeftAfter, Progress, TakesPiece}
+use Rattle.history_text.specs.Pieces.{AreFirst, GoesOn, HasBefore, IsBadFrom, IsFaultFrom, LeftAfter, Progress, StopsAt, TakesPiece}
 use Rattle.history_text.specs.Reading.{GivesLine, TakesNone, TakesOff}
 use Rattle.history_text.specs.Readings.{is_in_share, is_of_line}
 use Rattle.history_text.specs.Spelled.{IsSaid}
 use Rattle.history_text.specs.Spelling.{Spelled, spelled_of, ◌>>=◌}
+use Rattle.history_text.proofs.public_laws.Going.{first_then, goes_through, read_then}
 use Rattle.history_text.specs.Text.{Room, Text, TextRead, after_line, by_line, call_by, endless, is_passed_over, no_text, noted, number_of, of_history, passing, read_by, read_from, recorded, recorded_if, text_by, with_line}
 
 -- ---- what a line says, whichever calls the text held
@@ -329,6 +330,12 @@ read_failed : (fault : line_faults.ReadLineFault) → of_read_line fault ≡ Rea
 read_failed line_kinds.OutOfMemory is = cc
 read_failed line_kinds.ReadFault is = refl
 
+-- a bad line has this number
+abbrev pub IsNumbered : ℕ → ReadTextFault → Type 0
+IsNumbered number (Bad first) = first.number ≡ number
+IsNumbered number ReadFault = Unit {0}
+IsNumbered number OutOfMemory = Unit {0}
+
 -- how far a text was read, by its parts
 abbrev pub at : Reading → ℕ → ℕ → Ahead → Progress
 at how number skipped ahead = record { reading = how; number = number; skipped = skipped; ahead = ahead }
@@ -371,6 +378,25 @@ bad_fault how number skipped begun held (Some bytes) rest line (taking.Bad cause
   spelled = λ apart before places. stops_line endless how bytes line rest (read_by (text_by before places held.callers) skipped) number cause given (stops_other how held skipped number line cause said apart before places);
 }
 
+-- ---- lines after lines
+
+read_one : (room : Room) (how : Reading) (read other : TextRead) (number : ℕ) (line : List ℕ) → with_line room how read number line ≡ Ok other → read_from room how read number (line ∷ []) ≡ Ok other
+read_one room how read other number line gives =
+    ap (λ (said : Result TextRead LineCause). by_line number said (λ r. read_from room how r (suc number) [])) gives
+
+first_one : (left rest : Option (List ℕ)) (line : List ℕ) → GivesLine left Line line rest → AreFirst left (line ∷ []) rest
+first_one None rest line given = tt
+first_one (Some bytes) None line given =
+    let none : None ≡ Some (behind_line bytes) = given.2 in cc
+first_one (Some bytes) (Some more) line given =
+    let same : more ≡ behind_line bytes = (let e = given.2 in cc) in
+    next_lines bytes given.0 ∙ ap₂ (λ (l r : List ℕ). l ∷ lines_of r) (sym given.1) (sym same)
+
+first_none : (left rest : Option (List ℕ)) → Keeps left rest → AreFirst left [] rest
+first_none None rest kept = tt
+first_none (Some bytes) None kept = absurd kept
+first_none (Some bytes) (Some others) kept = ap lines_of (sym kept)
+
 -- ---- pieces
 
 -- a line is a piece
@@ -390,6 +416,11 @@ line_piece how number skipped after begun ahead held text left unread line given
       bytes = takes.front;
       taken = off_one left unread takes.front ahead.bytes takes.keeps;
       low = omega (arith, one);
+      front = line ∷ [];
+      first = first_one left (prepend_known ahead.bytes unread) line given;
+      number_is = refl;
+      read = read_one of_history how (read_by held skipped) (read_by text after) number line gives;
+      good = λ before places. read_one endless how (read_by (text_by before places held.callers) skipped) (read_by (text_by (before ++ taken.calls) (places ++ taken.lines) text.callers) after) number line (taken.spelled before places);
     }
 
 pub line_one : (how : Reading) (number skipped after : ℕ) (held text : Text) (line : List ℕ) → with_line of_history how (read_by held skipped) number line ≡ Ok (read_by text after) → length text.calls ≤ length held.calls + 1
@@ -428,6 +459,13 @@ no_piece old new held left rest kept reads number skipped = record {
   bytes = [];
   taken = kept_all left rest kept;
   low = omega (arith, number);
+  front = [];
+  first = first_none left rest kept;
+  number_is = omega (arith, number);
+  read = ap (λ n. Ok (read_by held n)) (sym skipped);
+  good = λ before places.
+      ap (λ n. Ok (read_by (text_by before places held.callers) n)) (sym skipped)
+      ∙ ap₂ (λ (cs : List Call) (ls : List ℕ). Ok (read_by (text_by cs ls held.callers) new.skipped)) (sym (append-nil before)) (sym (append-nil places));
 }
 
 -- at the end nothing is left to take, and nothing is read ahead
@@ -453,12 +491,6 @@ then_end None mid rest old between held text piece then = tt
 then_end (Some bytes) None rest old between held text piece then = absurd piece.goes_on
 then_end (Some bytes) (Some others) rest old between held text piece then = then
 
-goes_through : (room : Room) (how : Reading) (left mid rest : Option (List ℕ)) (read between other : TextRead) (number among last : ℕ) → GoesOn room how left read number mid between among → GoesOn room how mid between among rest other last → GoesOn room how left read number rest other last
-goes_through room how None mid rest read between other number among last one two = tt
-goes_through room how (Some bytes) None rest read between other number among last one two = absurd one
-goes_through room how (Some bytes) (Some more) None read between other number among last one two = absurd two
-goes_through room how (Some bytes) (Some more) (Some others) read between other number among last one two = one ∙ two
-
 -- two pieces are one
 pub then_piece : (left mid rest : Option (List ℕ)) (old between new : Progress) (held text other : Text) → TakesPiece left old held mid between text → TakesPiece mid between text rest new other → TakesPiece left old held rest new other
 then_piece left mid rest old between new held text other one two =
@@ -466,6 +498,8 @@ then_piece left mid rest old between new held text other one two =
     let more = two.low in
     let many = one.as_many in
     let others = two.as_many in
+    let one_number = one.number_is in
+    let two_number = two.number_is in
     record {
       calls = one.calls ++ two.calls;
       lines = one.lines ++ two.lines;
@@ -481,6 +515,16 @@ then_piece left mid rest old between new held text other one two =
       bytes = one.bytes ++ two.bytes;
       taken = consume_on left mid rest one.bytes two.bytes one.taken two.taken;
       low = omega (arith, feeds-append one.bytes two.bytes, low, more);
+      front = one.front ++ two.front;
+      first = first_then left mid rest one.front two.front one.first two.first;
+      number_is = omega (arith, one_number, two_number, length-append one.front two.front);
+      read = read_then of_history old.reading (read_by held old.skipped) (read_by text between.skipped) (Ok (read_by other new.skipped)) old.number between.number one.front two.front one_number one.read
+          (subst (λ h. read_from of_history h (read_by text between.skipped) between.number two.front ≡ Ok (read_by other new.skipped)) one.same two.read);
+      good = λ before places.
+          subst (λ (cs : List Call). read_from endless old.reading (read_by (text_by before places held.callers) old.skipped) old.number (one.front ++ two.front) ≡ Ok (read_by (text_by cs (places ++ (one.lines ++ two.lines)) other.callers) new.skipped)) (append_assoc before one.calls two.calls)
+          (subst (λ (ls : List ℕ). read_from endless old.reading (read_by (text_by before places held.callers) old.skipped) old.number (one.front ++ two.front) ≡ Ok (read_by (text_by ((before ++ one.calls) ++ two.calls) ls other.callers) new.skipped)) (append_assoc places one.lines two.lines)
+          (read_then endless old.reading (read_by (text_by before places held.callers) old.skipped) (read_by (text_by (before ++ one.calls) (places ++ one.lines) text.callers) between.skipped) (Ok (read_by (text_by ((before ++ one.calls) ++ two.calls) ((places ++ one.lines) ++ two.lines) other.callers) new.skipped)) old.number between.number one.front two.front one_number (one.good before places)
+          (subst (λ h. read_from endless h (read_by (text_by (before ++ one.calls) (places ++ one.lines) text.callers) between.skipped) between.number two.front ≡ Ok (read_by (text_by ((before ++ one.calls) ++ two.calls) ((places ++ one.lines) ++ two.lines) other.callers) new.skipped)) one.same (two.good (before ++ one.calls) (places ++ one.lines)))));
     }
 
 fault_some : (bytes : List ℕ) (mid : Option (List ℕ)) (old between : Progress) (held text : Text) (first : BadLine) → TakesPiece (Some bytes) old held mid between text → IfSome mid (λ others. IsBadFrom others between text first) → IsBadFrom bytes old held first
@@ -529,6 +573,43 @@ keeps_self (Some xs) = refl
 
 pub begins : (left : Option (List ℕ)) (old : Progress) (held : Text) → TakesPiece left old held left old held
 begins left old held = no_piece old old held left left (keeps_self left) refl refl refl
+
+-- ---- what a text has at a bad line
+
+-- the next line is bad, and the text stayed as it was
+pub stops_here : (left : Option (List ℕ)) (old : Progress) (held text : Text) (fault : ReadTextFault) → (fault ≢ OutOfMemory → held ≡ text) → IsNumbered old.number fault → IsFaultFrom left old held fault → HasBefore left old held text fault
+stops_here left old held text (Bad first) same at is = subst (λ (t : Text). StopsAt left old held t first) (same (λ e. cc)) (record {
+  at = old;
+  rest = left;
+  piece = begins left old held;
+  fault = is;
+  number_is = at;
+})
+stops_here left old held text ReadFault same at is = tt
+stops_here left old held text OutOfMemory same at is = tt
+
+-- the same after a piece
+pub then_stop : (left mid : Option (List ℕ)) (old between : Progress) (held text other : Text) (fault : ReadTextFault) → TakesPiece left old held mid between text → HasBefore mid between text other fault → HasBefore left old held other fault
+then_stop left mid old between held text other (Bad first) piece then = record {
+  at = then.at;
+  rest = then.rest;
+  piece = then_piece left mid then.rest old between then.at held text other piece then.piece;
+  fault = then.fault;
+  number_is = then.number_is;
+}
+then_stop left mid old between held text other ReadFault piece then = tt
+then_stop left mid old between held text other OutOfMemory piece then = tt
+
+pub is_numbered : (number : ℕ) (fault : TextFault) → IsNumbered number (fault_at number fault)
+is_numbered number (taking.Bad cause) = refl
+is_numbered number taking.OutOfMemory = tt
+
+pub not_refused : (number : ℕ) (fault : TextFault) (first : BadLine) → fault_at number fault ≡ Bad first → fault ≢ taking.OutOfMemory
+not_refused number fault first is refused =
+    let both : OutOfMemory ≡ Bad first = sym (ap (fault_at number) refused) ∙ is in cc
+
+pub unrefused : (number : ℕ) (fault : TextFault) → fault_at number fault ≢ OutOfMemory → fault ≢ taking.OutOfMemory
+unrefused number fault other is = other (ap (fault_at number) is)
 
 -- ---- what is read into a history is what the lines spell
 

@@ -68,7 +68,7 @@ impl<S: BuildHasher> TextHistory<S> {
     }
 
     /// Takes the next line, of at most `MAX_TEXT_LINE_LEN` bytes, or passes over it if it is bad and may be passed over. It answers
-    /// how many lines were passed over then, if before it were so many.
+    /// how many lines were passed over then, if before it were so many. A bad line leaves the text as it was.
     pub(crate) fn take_or_skip(
         &mut self,
         alloc: Global,
@@ -87,6 +87,7 @@ impl<S: BuildHasher> TextHistory<S> {
         ensures bad { IfErr result (IsSaid (
             with_line of_history reading
             (read_by (text_by self.old.history self.old.lines.items self.old.callers) skipped) number line.now)) }
+        ensures kept { IfErr result (λ fault. fault ≢ TextFault.OutOfMemory → self.new ≡ self.old) }
         ensures few { OnOk result (number < 2 ^ 32) }
         ensures before { IfOk result (λ after. after ≤ skipped + 1) }
     {

@@ -2,7 +2,7 @@
 ghost use Rattle.std.specs.Prelude.{◌≡◌, ◌+◌, ◌<◌, ◌≤◌, ◌^◌, [], IfOk, IfErr, IfSome, OnOk, length, true, false};
 ghost use Rattle.std.specs.Io.KnownBytes.{IsAtEnd};
 ghost use Rattle.history_text.specs.Outcome.{fault_at};
-ghost use Rattle.history_text.specs.Pieces.{IsFaultFrom, LeftAfter, TakesPiece, left_of};
+ghost use Rattle.history_text.specs.Pieces.{HasBefore, IsFaultFrom, LeftAfter, TakesPiece, left_of};
 ghost use Rattle.history_text.specs.Reading.{IsAhead};
 ghost use Rattle.history_text.specs.Text.{text_by};
 
@@ -99,6 +99,11 @@ impl TextReader {
             (λ _. IsAtEnd (left_of self.new (R.remaining reader.new)))) }
         ensures fault { IfErr result (IsFaultFrom (left_of self.old (R.remaining reader.old)) self.old
             (text_by text.old.history text.old.lines.items text.old.callers)) }
+        ensures unfilled { IfErr result (λ fault. (bad : BadLine) → fault ≡ ReadTextFault.Bad bad
+            → length text.new.history < length text.old.history + most) }
+        ensures stop { IfErr result (HasBefore (left_of self.old (R.remaining reader.old)) self.old
+            (text_by text.old.history text.old.lines.items text.old.callers)
+            (text_by text.new.history text.new.lines.items text.new.callers)) }
         ensures left { IfErr result (LeftAfter (left_of self.old (R.remaining reader.old)) self.old
             (text_by text.old.history text.old.lines.items text.old.callers) (R.remaining reader.new)) }
     {
@@ -136,6 +141,11 @@ impl TextReader {
             (λ _. IsAtEnd (left_of self.new (R.remaining reader.new)))) }
         ensures fault { IfErr result (IsFaultFrom (left_of self.old (R.remaining reader.old)) self.old
             (text_by text.old.history text.old.lines.items text.old.callers)) }
+        ensures kept { IfErr result (λ fault. (bad : BadLine) → fault ≡ ReadTextFault.Bad bad
+            → text.new ≡ text.old) }
+        ensures stop { IfErr result (HasBefore (left_of self.old (R.remaining reader.old)) self.old
+            (text_by text.old.history text.old.lines.items text.old.callers)
+            (text_by text.new.history text.new.lines.items text.new.callers)) }
         ensures left { IfErr result (LeftAfter (left_of self.old (R.remaining reader.old)) self.old
             (text_by text.old.history text.old.lines.items text.old.callers) (R.remaining reader.new)) }
     {

@@ -1,5 +1,5 @@
 -- The last piece of a stream: with what it is judged, what is told of it, and what is kept of it.
-use Rattle.std.proofs.Common.{◌≡◌, ◌∙◌, ◌≤◌, ◌+◌, ◌-◌, ℕ, Bool, true, false, not, ◌&&◌, cond, List, [], ◌∷◌, ◌++◌, Option, Some, None, IfSome, IsSomeAnd, length, unwrap_or, ap, ap₂, arith, refl, sym, subst, append_assoc, append-nil, inl, inr}
+use Rattle.std.proofs.Common.{◌≡◌, ◌∙◌, ◌≤◌, ◌+◌, ◌-◌, ℕ, Bool, true, false, not, cond, List, [], ◌∷◌, ◌++◌, Option, Some, None, Ok, IfSome, IsSomeAnd, length, unwrap_or, ap, ap₂, arith, refl, sym, subst, append_assoc, append-nil, inl, inr}
 use Rattle.std.specs.Prelude.{◌↔◌}
 use Rattle.std.specs.Io.KnownBytes.{IsAtEnd, prepend_known}
 use Rattle.std.proofs.lemmas.List.{length-append}
@@ -13,7 +13,7 @@ use Rattle.certificate_finder.specs.Laws.{WitnessExcludes}
 use Rattle.certificate_finder.specs.Warming.{warm_puts}
 use Rattle.history_text.specs.declared.reading.Reading.{Reading}
 use Rattle.history_text.specs.Reading.{IsAhead}
-use Rattle.history_text.specs.Pieces.{GoesOn, Progress, left_of}
+use Rattle.history_text.specs.Pieces.{AreFirst, GoesOn, Progress, left_of}
 use Rattle.history_text.specs.Text.{Text, endless, no_text, read_by, text_by}
 use Rattle.history_window.specs.Standing.{Acceptable}
 use Rattle.history_window.specs.Streams.{ArePuts, IsKept, IsLastOf, IsPartedIf, Piece, PiecesExclude, PiecesStand, added_in, bound_after, calls_in, decided_in, first_start, judged_in, judged_lines, lines_in, lines_of, waiting_in, waiting_lines_in}
@@ -143,6 +143,8 @@ judged_last scope window least known left progress kept kept_lines asked decided
       are = (t.are, record { bound_is = refl; kept = t.after; late = t.late; parted = parted_here; puts = puts_are });
       large = t.large;
       enough = λ unended. t.enough (not_over over unended);
+      sized = t.sized;
+      full = λ unended. t.full (not_over over unended);
       latest_is = t.latest_is;
       calls_are = a.calls_are ∙ ap (λ (cs : List Call). cs ++ a.puts) calls_whole ∙ append_assoc kept decided.calls a.puts;
       lines_are = a.lines_are ∙ ap (λ (ls : List ℕ). ls ++ a.put_lines) lines_whole ∙ append_assoc kept_lines decided.lines a.put_lines;
@@ -186,6 +188,7 @@ module _ (scope : Scope) (window least : ℕ) (known left : Option (List ℕ)) (
           | inl same ↦ subst (λ (q : Piece). least ≤ length q.calls) (sym same) (l.enough refl)
           | inr later ↦ all_member (λ (q : Piece). least ≤ length q.calls) l.earlier p l.large later
         ]);
+        sized = (l.sized, l.full refl);
         after = (subst Acceptable l.calls_are past, stays);
         waiting_are = l.waiting_are;
         waiting_lines_are = l.waiting_lines_are;
@@ -200,26 +203,11 @@ module _ (scope : Scope) (window least : ℕ) (known left : Option (List ℕ)) (
 
 -- ---- what was found
 
--- a certificate that was found is one
-pub acceptable_by : (calls : List Call) (found : Found) → IsFound calls found → was_accepted found ≡ true → Acceptable calls
-acceptable_by calls (verdicts.Accepted certificate) is yes_one = (certificate, is.accepted)
-acceptable_by calls (verdicts.Rejected witness) is yes_one = absurd cc
-acceptable_by calls (verdicts.Undecided hits) is yes_one = absurd cc
-
 -- what was decided and not accepted is not acceptable
 unacceptable_by : WitnessExcludes → (calls : List Call) (found : Found) → IsFound calls found → was_accepted found ≡ false → was_decided found ≡ true → ¬ Acceptable calls
 unacceptable_by excludes calls (verdicts.Accepted certificate) is no_one yes_one past = absurd cc
 unacceptable_by excludes calls (verdicts.Rejected witness) is no_one yes_one past = excludes calls witness past.0 is.rejected past.1
 unacceptable_by excludes calls (verdicts.Undecided hits) is no_one yes_one past = absurd cc
-
--- a test that is passed and one that is not, of whether more may come and of what was found
-pub accepted_over : (over accepted : Bool) → (not over && accepted) ≡ true → (over ≡ false) × (accepted ≡ true)
-accepted_over true accepted is = absurd cc
-accepted_over false accepted is = (refl, is)
-
-pub unaccepted_open : (over accepted : Bool) → (not over && accepted) ≡ false → over ≡ false → accepted ≡ false
-unaccepted_open true accepted is unended = absurd cc
-unaccepted_open false accepted is unended = is
 
 -- calls behind calls have lines behind lines
 pub joined_many : (first more : List Call) (first_lines more_lines : List ℕ) (whole : Text) (callers : List (List ℕ)) → whole ≡ text_by (first ++ more) (first_lines ++ more_lines) callers → length first_lines ≡ length first → length more_lines ≡ length more → length whole.lines ≡ length whole.calls
@@ -325,6 +313,10 @@ goes_first : (scope : Scope) (known : Option (List ℕ)) → GoesOn endless scop
 goes_first scope None = tt
 goes_first scope (Some bytes) = refl
 
+none_first : (known : Option (List ℕ)) → AreFirst known [] (prepend_known [] known)
+none_first None = tt
+none_first (Some bytes) = refl
+
 -- nothing was read yet
 none_counted : (forgotten : Forgotten) → forgotten ≡ record { puts = 0; removals = 0; hits = 0; misses = 0; added = 0 } → AreCounted forgotten [] []
 none_counted forgotten none = λ kind.
@@ -340,6 +332,7 @@ going_first scope window least known progress kept waiting waiting_lines bound l
       pieces = [];
       are = tt;
       large = λ k d less. absurd (omega (arith, less));
+      sized = tt;
       after = (calls, lines);
       waiting_are = none_wait;
       waiting_lines_are = no_lines;
@@ -354,6 +347,10 @@ going_first scope window least known progress kept waiting waiting_lines bound l
         calls_are = refl;
         lines_are = refl;
         callers_are = callers;
+        front = [];
+        first = subst (λ (p : Progress). AreFirst known [] (left_of p known)) (sym progress_is) (none_first known);
+        number_is = ap (λ (p : Progress). p.number) progress_is;
+        good = ap (λ (p : Progress). Ok (read_by no_text p.skipped)) (sym progress_is);
       };
       counted = subst (AreCounted forgotten []) (sym calls) (none_counted forgotten none);
       added = ap (λ (f : Forgotten). f.added) none;

@@ -1,5 +1,5 @@
 -- What is judged of a text that is read as a stream.
-use Rattle.std.specs.Prelude.{◌≡◌, ◌≢◌, ◌↔◌, ◌⊎◌, ℕ, ◌+◌, ◌<◌, ◌≤◌, All, Bool, true, false, List, [], ◌∷◌, ◌++◌, IfSome, length, map, take, slice_get, Option, Some, None, Err, unwrap_or}
+use Rattle.std.specs.Prelude.{◌≡◌, ◌≢◌, ◌↔◌, ◌⊎◌, ℕ, ◌+◌, ◌-◌, ◌^◌, max, min, ◌<◌, ◌≤◌, All, Bool, true, false, List, [], ◌∷◌, ◌++◌, IfSome, length, map, take, slice_get, Option, Some, None, Ok, Err, unwrap_or}
 use Rattle.std.specs.Io.KnownBytes.{IsAtEnd}
 use Rattle.trace_file.specs.declared.call.Call.{Call}
 use Rattle.clock_skew.specs.Widening.{widened}
@@ -8,8 +8,8 @@ use Rattle.history_text.specs.declared.line_cause.LineCause.TheVariants.{BeforeW
 use Rattle.history_text.specs.declared.read_text_fault.ReadTextFault.{ReadTextFault}
 use Rattle.history_text.specs.declared.read_text_fault.ReadTextFault.TheVariants.{Bad, ReadFault, OutOfMemory}
 use Rattle.history_text.specs.Outcome.{IsFaultOf, Left}
-use Rattle.history_text.specs.Pieces.{GoesOn, IsFaultFrom, Progress}
-use Rattle.history_text.specs.Text.{Text, calls_of, endless, no_text, read_by, text_by}
+use Rattle.history_text.specs.Pieces.{AreFirst, GoesOn, IsFaultFrom, Progress}
+use Rattle.history_text.specs.Text.{Text, calls_of, endless, no_text, read_by, read_from, text_by}
 use Rattle.history_window.specs.Standing.{Acceptable, StartFrom}
 use Rattle.certificate_finder.specs.declared.found.Found.{Found}
 use Rattle.certificate_finder.specs.declared.found.Found.TheVariants as verdicts
@@ -30,7 +30,7 @@ use Rattle.judge_run.specs.Listing.{IsListed}
 use Rattle.judge_run.specs.Scopes.{IsCounted, IsJudged}
 use Rattle.judge_run.specs.Kinds as kinds
 
--- these calls, widened by the skew of the stamps, stand on these lines in what was read so far. If the bytes are known, what is left of them gives, after it, what all bytes give
+-- these calls, widened by the skew of the stamps, stand on these lines in what was read so far: they are what the lines up to there say, none of which is bad. If the bytes are known, what is left of them gives, after it, what all bytes give
 pub record IsReadSoFar (scope : Scope) (known left : Option (List ℕ)) (progress : Progress) (calls : List Call) (lines : List ℕ) (callers : List (List ℕ)) : Type 0 where
   pub spelled : Text
   pub reading : progress.reading ≡ scope.reading
@@ -38,6 +38,10 @@ pub record IsReadSoFar (scope : Scope) (known left : Option (List ℕ)) (progres
   pub calls_are : calls ≡ map (widened scope.skew) spelled.calls
   pub lines_are : lines ≡ spelled.lines
   pub callers_are : callers ≡ spelled.callers
+  pub front : List (List ℕ)
+  pub first : AreFirst known front left
+  pub number_is : progress.number ≡ 1 + length front
+  pub good : read_from endless scope.reading (read_by no_text 0) 1 front ≡ Ok (read_by spelled progress.skipped)
 
 -- how many calls of a kind were forgotten
 abbrev pub forgotten_of : CountedKind → Forgotten → ℕ
@@ -59,11 +63,21 @@ added_if false puts = None
 abbrev pub AreLarge : ℕ → List Piece → Type 0
 AreLarge least pieces = All (λ piece. least ≤ length piece.calls) pieces
 
+-- how many calls a piece has: so many, or as many as are kept and wait if those are more, and at least one. A number that 64 bits can't hold stops at the last that they can
+abbrev pub piece_size : ℕ → List Call → List Call → ℕ
+piece_size least kept waiting = max (max least (min (length kept + length waiting) (2 ^ 64 - 1))) 1
+
+-- each piece has exactly so many
+abbrev pub AreSized : ℕ → List Piece → Type 0
+AreSized least [] = Unit {0}
+AreSized least (piece ∷ earlier) = AreSized least earlier × (length piece.calls ≡ piece_size least piece.kept (waiting_in earlier))
+
 -- this is held of a stream between two readings: what is kept of all that was judged, and the hits that wait. The calls that are read next have to start at this stamp or later
 pub record IsGoing (scope : Scope) (window least : ℕ) (known left : Option (List ℕ)) (progress : Progress) (kept : Text) (waiting : List Call) (waiting_lines : List ℕ) (bound latest : ℕ) (forgotten : Forgotten) : Type 0 where
   pub pieces : List Piece
   pub are : ArePieces window scope.warm pieces
   pub large : AreLarge least pieces
+  pub sized : AreSized least pieces
   pub after : IsKeptAfter (first_start bound waiting) pieces kept.calls kept.lines
   pub waiting_are : waiting ≡ waiting_in pieces
   pub waiting_lines_are : waiting_lines ≡ waiting_lines_in pieces
@@ -80,11 +94,13 @@ pub record IsTaken (scope : Scope) (window least : ℕ) (known left : Option (Li
   pub pieces : List Piece
   pub are : ArePieces window scope.warm pieces
   pub large : AreLarge least pieces
+  pub sized : AreSized least pieces
   pub after : IsKeptAfter (first_start (bound_after window (calls_in pieces)) (waiting_in pieces)) pieces kept kept_lines
   pub calls : List Call
   pub lines : List ℕ
   pub late : StartFrom (bound_after window (calls_in pieces)) calls
   pub enough : over ≡ false → least ≤ length calls
+  pub full : over ≡ false → length calls ≡ piece_size least kept (waiting_in pieces)
   pub latest_is : latest ≡ last_end 0 (calls_in pieces ++ calls)
   pub calls_are : asked.calls ≡ waiting_in pieces ++ calls
   pub lines_are : asked.lines ≡ waiting_lines_in pieces ++ lines
@@ -94,22 +110,50 @@ pub record IsTaken (scope : Scope) (window least : ℕ) (known left : Option (Li
   pub counted : AreCounted forgotten (decided_in pieces) kept
   pub added : forgotten.added ≡ puts_in pieces
 
--- these calls were read after all of earlier pieces, and the one on a line is the first of them that starts before the stamp that those give
-pub record IsBefore (scope : Scope) (window : ℕ) (known : Option (List ℕ)) (line : ℕ) : Type 0 where
-  pub pieces : List Piece
-  pub are : ArePieces window scope.warm pieces
-  pub calls : List Call
-  pub lines : List ℕ
-  pub callers : List (List ℕ)
-  pub left : Option (List ℕ)
-  pub progress : Progress
-  pub read : IsReadSoFar scope known left progress (calls_in pieces ++ calls) (lines_in pieces ++ lines) callers
+-- the first call of a text that starts before a stamp stands on this line
+pub record IsEarly (bound : ℕ) (text : Text) (line : ℕ) : Type 0 where
   pub place : ℕ
   pub call : Call
-  pub at : slice_get calls place ≡ Some call
-  pub line_is : slice_get lines place ≡ Some line
-  pub before : call.start < bound_after window (calls_in pieces)
-  pub first : StartFrom (bound_after window (calls_in pieces)) (take place calls)
+  pub at : slice_get text.calls place ≡ Some call
+  pub line_is : slice_get text.lines place ≡ Some line
+  pub before : call.start < bound
+  pub first : StartFrom bound (take place text.calls)
+
+-- all lines before the one of this number are good. They have the calls of pieces, each as many as a piece has, which give this stamp, and after those the calls of this text, at most as many as the next piece has
+pub record IsReadTo (scope : Scope) (window least : ℕ) (known : Option (List ℕ)) (bound number : ℕ) (text : Text) : Type 0 where
+  pub pieces : List Piece
+  pub are : ArePieces window scope.warm pieces
+  pub sized : AreSized least pieces
+  pub bound_is : bound ≡ bound_after window (calls_in pieces)
+  pub kept : List Call
+  pub kept_lines : List ℕ
+  pub after : IsKeptAfter (first_start bound (waiting_in pieces)) pieces kept kept_lines
+  pub few : length text.calls ≤ piece_size least kept (waiting_in pieces)
+  pub left : Option (List ℕ)
+  pub progress : Progress
+  pub read : IsReadSoFar scope known left progress (calls_in pieces ++ text.calls) (lines_in pieces ++ text.lines) text.callers
+  pub number_is : number ≡ progress.number
+
+-- the call on this line is the first one that starts too early, and no line before it is bad
+pub record IsBefore (scope : Scope) (window least : ℕ) (known : Option (List ℕ)) (line : ℕ) : Type 0 where
+  pub bound : ℕ
+  pub number : ℕ
+  pub text : Text
+  pub read : IsReadTo scope window least known bound number text
+  pub early : IsEarly bound text line
+
+-- no call on a line before this one starts too early
+pub record IsNoneBefore (scope : Scope) (window least : ℕ) (known : Option (List ℕ)) (line : ℕ) : Type 0 where
+  pub bound : ℕ
+  pub text : Text
+  pub read : IsReadTo scope window least known bound line text
+  pub late : StartFrom bound text.calls
+
+-- of the calls before a bad line the first that starts before a stamp is told, or if there is none, the bad line itself. Memory may be refused
+abbrev pub IsFirstOf : Text → ℕ → BadLine → ReadTextFault → Type 0
+IsFirstOf text bound bad (Bad told) = ((told ≡ bad) × StartFrom bound text.calls) ⊎ ((told.cause ≡ BeforeWindow) × IsEarly bound text told.number)
+IsFirstOf text bound bad ReadFault = ⊥
+IsFirstOf text bound bad OutOfMemory = Unit {0}
 
 -- from the beginning of some reading on there are more calls than a history may have: the bad line is that of the first one too many
 pub record AreTooMany (scope : Scope) (known : Option (List ℕ)) (bad : BadLine) : Type 0 where
@@ -121,17 +165,18 @@ pub record AreTooMany (scope : Scope) (known : Option (List ℕ)) (bad : BadLine
   pub read : IsReadSoFar scope known left progress calls lines callers
   pub first : IsFaultFrom left progress (text_by [] [] callers) (Bad bad)
 
--- a line is the first bad one of these bytes, however many calls there are; or there are too many from some reading on
-pub record IsBadLine (scope : Scope) (bytes : List ℕ) (bad : BadLine) : Type 0 where
+-- a line is the first bad one of these bytes, however many calls there are; or there are too many from some reading on. No call before it starts too early
+pub record IsBadLine (scope : Scope) (window least : ℕ) (bytes : List ℕ) (bad : BadLine) : Type 0 where
   pub spelled : bad.cause ≢ TooManyCalls → calls_of scope.reading bytes ≡ Err bad
   pub many : bad.cause ≡ TooManyCalls → AreTooMany scope (Some bytes) bad
+  pub before : IsNoneBefore scope window least (Some bytes) bad.number
 
--- why a stream is not judged: a line is bad, or its call starts too early; or the reader or memory refused something
-abbrev pub IsStreamFault : Scope → ℕ → Option (List ℕ) → ReadTextFault → Type 0
-IsStreamFault scope window known (Bad bad) =
-    IfSome known (λ bytes. IsBadLine scope bytes bad ⊎ ((bad.cause ≡ BeforeWindow) × IsBefore scope window known bad.number))
-IsStreamFault scope window known ReadFault = Unit {0}
-IsStreamFault scope window known OutOfMemory = Unit {0}
+-- why a stream is not judged: its first bad line, or the first call that starts too early, whichever comes first; or the reader or memory refused something
+abbrev pub IsStreamFault : Scope → ℕ → ℕ → Option (List ℕ) → ReadTextFault → Type 0
+IsStreamFault scope window least known (Bad bad) =
+    IfSome known (λ bytes. IsBadLine scope window least bytes bad ⊎ ((bad.cause ≡ BeforeWindow) × IsBefore scope window least known bad.number))
+IsStreamFault scope window least known ReadFault = Unit {0}
+IsStreamFault scope window least known OutOfMemory = Unit {0}
 
 -- the last piece was judged: what was kept before it, all calls that are decided with it, and the puts that were added. More may come or not. Every piece has so many calls or more, but for one at whose end the input is over
 pub record IsJudgedLast (scope : Scope) (window least : ℕ) (unended : Bool) (known left : Option (List ℕ)) (progress : Progress) (judged : Text) (waiting : List Call) (waiting_lines : List ℕ) (latest : ℕ) (forgotten : Forgotten) (from_start : Option ℕ) : Type 0 where
@@ -140,6 +185,8 @@ pub record IsJudgedLast (scope : Scope) (window least : ℕ) (unended : Bool) (k
   pub are : IsLastOf window scope.warm unended last earlier
   pub large : AreLarge least earlier
   pub enough : unended ≡ true → least ≤ length last.calls
+  pub sized : AreSized least earlier
+  pub full : unended ≡ true → length last.calls ≡ piece_size least last.kept (waiting_in earlier)
   pub latest_is : latest ≡ last_end 0 (calls_in (last ∷ earlier))
   pub calls_are : judged.calls ≡ judged_in last
   pub lines_are : judged.lines ≡ judged_lines last
@@ -237,7 +284,7 @@ IsEndedBy (Some window) accepted left = accepted ≡ true → IsAtEnd left
 -- why a text is not judged
 abbrev pub IsFaultBy : Option ℕ → Scope → Option (List ℕ) → ReadTextFault → Type 0
 IsFaultBy None scope known fault = IfSome known (λ bytes. IsFaultOf scope.reading bytes fault)
-IsFaultBy (Some window) scope known fault = IsStreamFault scope window known fault
+IsFaultBy (Some window) scope known fault = IsStreamFault scope window least_piece known fault
 
 -- how far a reader was read then. Of a stream nothing is said of it
 abbrev pub IsLeftBy : Option ℕ → Scope → Option (List ℕ) → Option (List ℕ) → ReadTextFault → Type 0

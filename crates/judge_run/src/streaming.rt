@@ -60,7 +60,7 @@ pub fn judge_stream<S: BuildHasher + Copy + Drop, R: Read>(
         length judged.text.lines.items ≡ length judged.text.history) }
     ensures end { IfOk result (λ judged. was_accepted judged.found ≡ true
         → IsAtEnd (R.remaining reader.new)) }
-    ensures fault { IfErr result (IsStreamFault scope window (R.remaining reader.old)) }
+    ensures fault { IfErr result (IsStreamFault scope window least (R.remaining reader.old)) }
 {
     let mut lines = TextReader::new(alloc, scope.reading);
     let mut stream = Stream {
@@ -134,7 +134,7 @@ fn judge_next<S: BuildHasher + Copy + Drop, R: Read>(
         (text_by stream.text.history stream.text.lines.items stream.text.callers)
         stream.waiting.history stream.waiting.lines.items
         stream.bound stream.latest stream.forgotten
-        → IsStreamFault scope window known fault) }
+        → IsStreamFault scope window least known fault) }
 {
     let taken = match take_piece(alloc, scope, least, stream, lines, reader) {
         Ok(taken) => taken,

@@ -1,10 +1,11 @@
 // Reading a piece of a text.
-ghost use Rattle.std.specs.Prelude.{◌≡◌, ◌≤◌, ◌++◌, IfErr, IfOk, IfSome, List, ℕ, OnOk, Option, true};
+ghost use Rattle.std.specs.Prelude.{◌≡◌, ◌≤◌, ◌++◌, IfErr, IfOk, IfSome, List, ℕ, OnOk, Option, length, true};
 ghost use Rattle.std.specs.Io.KnownBytes.{IsAtEnd};
 ghost use Rattle.history_text.specs.Pieces.{left_of};
 ghost use Rattle.history_text.specs.Reading.{IsAhead};
 ghost use Rattle.history_text.specs.Text.{text_by};
-ghost use Rattle.judge_run.specs.Streams.{IsGoing, IsStreamFault, IsTaken};
+ghost use Rattle.judge_run.specs.Scopes.{text_scoped};
+ghost use Rattle.judge_run.specs.Streams.{IsFirstOf, IsGoing, IsStreamFault, IsTaken, piece_size};
 
 use crate::lined_calls::LinedCalls;
 use crate::scope::Scope;
@@ -19,7 +20,7 @@ use std::io::Read;
 use trace_file::History;
 
 /// Reads the next piece: so many calls, as many as are kept and wait if those are more, and at least one; or what is left. The calls are
-/// widened by the skew. One that starts before the stamp of the stream is a bad line.
+/// widened by the skew. One that starts before the stamp of the stream is a bad line. Of two bad lines the first is told.
 pub(crate) fn take_piece<S: BuildHasher + Drop, R: Read>(
     alloc: Global,
     scope: Scope,
@@ -48,7 +49,7 @@ pub(crate) fn take_piece<S: BuildHasher + Drop, R: Read>(
         (text_by stream.text.history stream.text.lines.items stream.text.callers)
         stream.waiting.history stream.waiting.lines.items
         stream.bound stream.latest stream.forgotten
-        → IsStreamFault scope window known fault) }
+        → IsStreamFault scope window least known fault) }
 {
     let Stream {
         text,
@@ -70,7 +71,9 @@ pub(crate) fn take_piece<S: BuildHasher + Drop, R: Read>(
     };
     let over = match lines.take_calls(alloc, &mut piece, reader, most) {
         Ok(over) => over,
-        Err(fault) => return Err(fault),
+        Err(ReadTextFault::Bad(bad)) => return Err(first_fault(alloc, scope, bound, piece, bad)),
+        Err(ReadTextFault::ReadFault) => return Err(ReadTextFault::ReadFault),
+        Err(ReadTextFault::OutOfMemory) => return Err(ReadTextFault::OutOfMemory),
     };
     let Ok(piece) = scoped(alloc, piece, scope) else {
         return Err(ReadTextFault::OutOfMemory);
@@ -96,10 +99,32 @@ pub(crate) fn take_piece<S: BuildHasher + Drop, R: Read>(
 
 /// How many calls a piece has: so many, or as many as these if those are more, and at least one.
 fn most_of(least: usize, kept: &History, waiting: &History) -> usize
-    ensures { least ≤ result }
+    ensures least { least ≤ result }
+    ensures size { result ≡ piece_size least kept.now waiting.now }
 {
     let held = kept.len().saturating_add(waiting.len());
     least.max(held).max(1)
+}
+
+/// The first fault of a piece that was read up to a bad line: a call of it that starts before a stamp stands before that line.
+fn first_fault<S: BuildHasher + Drop>(
+    alloc: Global,
+    scope: Scope,
+    bound: u64,
+    piece: TextHistory<S>,
+    bad: BadLine,
+) -> ReadTextFault
+    requires { length piece.lines.items ≡ length piece.history }
+    ensures { IsFirstOf
+        (text_scoped scope (text_by piece.history piece.lines.items piece.callers)) bound bad result }
+{
+    let Ok(piece) = scoped(alloc, piece, scope) else {
+        return ReadTextFault::OutOfMemory;
+    };
+    match first_before(&piece.history, bound) {
+        Some(late) => before_window(piece.lines[late]),
+        None => ReadTextFault::Bad(bad),
+    }
 }
 
 /// The fault of a call on this line that starts too early.

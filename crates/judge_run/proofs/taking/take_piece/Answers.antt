@@ -4,12 +4,14 @@ use Rattle.std.proofs.lemmas.Option.{slice_get_read, slice_get_within}
 use Rattle.trace_file.specs.declared.call.Call.{Call}
 use Rattle.certificate_checker.proofs.public_laws.Lookups.{some_and}
 use Rattle.history_text.specs.declared.read_text_fault.ReadTextFault.{ReadTextFault}
-use Rattle.history_text.specs.Pieces.{IsFaultFrom, Progress, TakesPiece, left_of}
+use Rattle.history_text.specs.declared.bad_line.BadLine.{BadLine}
+use Rattle.history_text.specs.declared.read_text_fault.ReadTextFault.TheVariants.{Bad}
+use Rattle.history_text.specs.Pieces.{HasBefore, IsFaultFrom, Progress, TakesPiece, left_of}
 use Rattle.history_text.specs.Text.{Text, text_by}
 use Rattle.judge_run.specs.declared.scope.Scope.{Scope}
 use Rattle.judge_run.specs.Scopes.{text_scoped}
-use Rattle.judge_run.specs.Streams.{IsStreamFault}
-use Rattle.judge_run.proofs.TakingLaws.{as_many, before, before_fault, enough_judged, read_fault, taken}
+use Rattle.judge_run.specs.Streams.{IsFirstOf, IsStreamFault, piece_size}
+use Rattle.judge_run.proofs.TakingLaws.{as_many, before, before_fault, early_at, enough_judged, few_judged, first_told, full_judged, below, taken}
 use Rattle.judge_run.proofs.taking.take_piece.Goals as goal
 
 -- nothing is held before a piece
@@ -21,6 +23,9 @@ from_none left rest old new calls lines callers piece no_calls no_lines = subst 
 
 fault_from_none : (left : Option (List ℕ)) (old : Progress) (calls : List Call) (lines : List ℕ) (callers : List (List ℕ)) (fault : ReadTextFault) → calls ≡ [] → lines ≡ [] → IsFaultFrom left old (text_by calls lines callers) fault → IsFaultFrom left old (text_by [] [] callers) fault
 fault_from_none left old calls lines callers fault no_calls no_lines = subst (λ (held : Text). IsFaultFrom left old held fault) (none_held calls lines callers no_calls no_lines)
+
+stop_from_none : (left : Option (List ℕ)) (old : Progress) (calls : List Call) (lines : List ℕ) (callers : List (List ℕ)) (piece : Text) (fault : ReadTextFault) → calls ≡ [] → lines ≡ [] → HasBefore left old (text_by calls lines callers) piece fault → HasBefore left old (text_by [] [] callers) piece fault
+stop_from_none left old calls lines callers piece fault no_calls no_lines = subst (λ (held : Text). HasBefore left old held piece fault) (none_held calls lines callers no_calls no_lines)
 
 -- the place of a call has a line
 within : (scope : Scope) (left rest : Option (List ℕ)) (old new : Progress) (callers : List (List ℕ)) (piece judged : Text) → TakesPiece left old (text_by [] [] callers) rest new piece → judged ≡ text_scoped scope piece → (place bound : ℕ) → IsSomeAnd (slice_get judged.calls place) (λ (call : Call). call.start < bound) → place < length judged.lines
@@ -41,13 +46,21 @@ index-requires g c =
     let there : c.in-Some.late < length c.in-Ok-scoped.piece.lines.items = within c.args.scope left rest c.args.lines.now c.take_calls.new.self callers piece judged takes c.in-Ok-scoped.ensures c.in-Some.late c.args.stream.bound c.in-Some.ensures.some.0 in
     omega (arith, there, c.in-Ok-scoped.piece.lines.ok.0)
 
-pub returns-in-Err-clause-fault : goal.returns-in-Err-clause-fault
-returns-in-Err-clause-fault g c = λ window known going.
+pub returns-in-Err-Bad-clause-fault : goal.returns-in-Err-Bad-clause-fault
+returns-in-Err-Bad-clause-fault g c = λ window known going.
     let left = left_of c.args.lines.now (g.R.Read.remaining c.args.reader.now) in
     let stream = c.args.stream in
     let kept = text_by stream.text.history stream.text.lines.items stream.text.callers in
-    read_fault c.args.scope window c.args.least known left c.args.lines.now kept stream.waiting.history stream.waiting.lines.items stream.bound stream.latest stream.forgotten c.in-Err.fault going
-    (fault_from_none left c.args.lines.now c.new.result c.new-2.result.items kept.callers c.in-Err.fault c.new.ensures c.new-2.ensures.items c.in-Err.ensures.fault)
+    let piece = text_by c.take_calls.new.text.history c.take_calls.new.text.lines.items c.take_calls.new.text.callers in
+    let held = text_by c.new.result c.new-2.result.items kept.callers in
+    let bad = c.in-Err-Bad.bad in
+    let fault = subst (λ (f : ReadTextFault). IsFaultFrom left c.args.lines.now held f) c.in-Err-Bad.field-0-is c.in-Err-Bad.ensures.fault in
+    let stop = subst (λ (f : ReadTextFault). HasBefore left c.args.lines.now held piece f) c.in-Err-Bad.field-0-is c.in-Err-Bad.ensures.stop in
+    first_told c.args.scope window c.args.least known left c.args.lines.now kept stream.waiting.history stream.waiting.lines.items piece stream.bound stream.latest stream.forgotten bad c.first_fault.result going
+    (fault_from_none left c.args.lines.now c.new.result c.new-2.result.items kept.callers (Bad bad) c.new.ensures c.new-2.ensures.items fault)
+    (stop_from_none left c.args.lines.now c.new.result c.new-2.result.items kept.callers piece (Bad bad) c.new.ensures c.new-2.ensures.items stop)
+    (few_judged c.args.scope piece (text_scoped c.args.scope piece) c.new.result c.most_of-most.result (piece_size c.args.least stream.text.history stream.waiting.history) refl c.new.ensures (below (length piece.calls) _ (c.in-Err-Bad.ensures.unfilled bad c.in-Err-Bad.field-0-is)) c.most_of-most.ensures.size)
+    (subst (λ (b : BadLine). IsFirstOf (text_scoped c.args.scope piece) stream.bound b c.first_fault.result) c.in-Err-Bad.bad-is c.first_fault.ensures)
 
 pub returns-in-Some-clause-fault : goal.returns-in-Some-clause-fault
 returns-in-Some-clause-fault g c = λ window known going.
@@ -59,9 +72,9 @@ returns-in-Some-clause-fault g c = λ window known going.
     let judged = text_by c.in-Ok-scoped.piece.history c.in-Ok-scoped.piece.lines.items c.in-Ok-scoped.piece.callers in
     let takes = from_none left rest c.args.lines.now c.take_calls.new.self c.new.result c.new-2.result.items kept.callers piece c.new.ensures c.new-2.ensures.items c.in-Ok.ensures.piece in
     let there = within c.args.scope left rest c.args.lines.now c.take_calls.new.self kept.callers piece judged takes c.in-Ok-scoped.ensures c.in-Some.late stream.bound c.in-Some.ensures.some.0 in
-    subst (λ fault. IsStreamFault c.args.scope window known fault) (sym c.before_window.ensures) (before_fault c.args.scope window known c.index.result.now
+    subst (λ fault. IsStreamFault c.args.scope window c.args.least known fault) (sym c.before_window.ensures) (before_fault c.args.scope window c.args.least known c.index.result.now
     (before c.args.scope window c.args.least known left rest c.args.lines.now c.take_calls.new.self kept stream.waiting.history stream.waiting.lines.items piece judged stream.bound stream.latest stream.forgotten going takes c.in-Ok-scoped.ensures
-    c.in-Some.late c.index.result.now c.in-Some.ensures.some.0 c.in-Some.ensures.some.1 (slice_get_read judged.lines (length judged.lines) c.in-Some.late c.index.result.now refl there c.index.ensures)))
+    c.index.result.now (few_judged c.args.scope piece judged c.new.result c.most_of-most.result (piece_size c.args.least stream.text.history stream.waiting.history) c.in-Ok-scoped.ensures c.new.ensures c.in-Ok.ensures.few c.most_of-most.ensures.size) (early_at judged stream.bound c.in-Some.late c.index.result.now c.in-Some.ensures.some.0 c.in-Some.ensures.some.1 (slice_get_read judged.lines (length judged.lines) c.in-Some.late c.index.result.now refl there c.index.ensures))))
 
 pub returns-clause-taken : goal.returns-clause-taken
 returns-clause-taken g c = λ window known going.
@@ -74,5 +87,6 @@ returns-clause-taken g c = λ window known going.
     let takes = from_none left rest c.args.lines.now c.take_calls.new.self c.new.result c.new-2.result.items kept.callers piece c.new.ensures c.new-2.ensures.items c.in-Ok.ensures.piece in
     taken c.args.scope window c.args.least known left rest c.args.lines.now c.take_calls.new.self kept stream.waiting.history stream.waiting.lines.items piece judged stream.bound stream.latest stream.forgotten going takes c.in-Ok-scoped.ensures
     (text_by c.in-Ok-joined.text.history c.in-Ok-joined.text.lines.items c.in-Ok-joined.text.callers) c.last_end-latest.result c.in-Ok.over
-    (λ is. enough_judged c.args.scope piece judged c.new.result c.args.least c.most_of-most.result c.in-Ok-scoped.ensures c.new.ensures (c.in-Ok.ensures.full is) c.most_of-most.ensures)
+    (λ is. enough_judged c.args.scope piece judged c.new.result c.args.least c.most_of-most.result c.in-Ok-scoped.ensures c.new.ensures (c.in-Ok.ensures.full is) c.most_of-most.ensures.least)
+    (λ is. full_judged c.args.scope piece judged c.new.result c.most_of-most.result (piece_size c.args.least stream.text.history stream.waiting.history) c.in-Ok-scoped.ensures c.new.ensures (c.in-Ok.ensures.full is) c.most_of-most.ensures.size)
     c.in_default-first_before.ensures.none c.last_end-latest.ensures c.in-Ok-joined.ensures

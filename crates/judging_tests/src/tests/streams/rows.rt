@@ -250,6 +250,15 @@ fn rows_are_judged_with_a_window(rt: HostRuntime) -> Result<(), Fail> {
     Ok(())
 }
 
+/// Of two bad lines of one piece the first is told: a call that starts too early stands before a line that is no call, or after it.
+#[test]
+fn the_first_bad_line_of_a_piece_is_told(rt: HostRuntime) {
+    let early = "a 10 20 put k v\na 30 40 put k w\na 5 6 miss k\nbad\n";
+    let late = "a 10 20 put k v\na 30 40 put k w\nbad\na 5 6 miss k\n";
+    assert!(rt; streamed(rt.alloc(), early, Scope::WHOLE, 0, 2) == End::Late(3));
+    assert!(rt; streamed(rt.alloc(), late, Scope::WHOLE, 0, 2) == End::Fault);
+}
+
 /// As many misses as leave room for one call in a piece of a text, and after them the hit of a value whose put stands on the next line.
 fn parted_text(alloc: Global) -> Result<String, AllocError> {
     let mut text = String::new(alloc);

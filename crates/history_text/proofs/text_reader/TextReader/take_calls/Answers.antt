@@ -1,8 +1,8 @@
 -- Line after line, one piece grows.
-use Rattle.std.proofs.Common.{arith}
+use Rattle.std.proofs.Common.{◌≡◌, ap, arith, length}
 use Rattle.history_text.specs.Pieces.{left_of}
 use Rattle.history_text.specs.Text.{text_by}
-use Rattle.history_text.proofs.PieceLaws.{begins, piece_least, then_fault, then_left, then_piece}
+use Rattle.history_text.proofs.PieceLaws.{begins, piece_least, then_fault, then_left, then_piece, then_stop}
 use Rattle.history_text.proofs.text_reader.TextReader.take_calls.Goals as goal
 
 pub loop-alloc-init : goal.loop-alloc-init
@@ -47,3 +47,16 @@ returns-in-Err-clause-fault g c =
 pub returns-in-Err-clause-left : goal.returns-in-Err-clause-left
 returns-in-Err-clause-left g c =
     then_left (left_of c.args.self.now (g.R.Read.remaining c.args.reader.now)) (left_of c.loop-alloc.self (g.R.Read.remaining c.loop-alloc.reader)) (g.R.Read.remaining c.take_line.new.reader) c.args.self.now c.loop-alloc.self (text_by c.args.text.now.history c.args.text.now.lines.items c.args.text.now.callers) (text_by c.loop-alloc.text.history c.loop-alloc.text.lines.items c.loop-alloc.text.callers) c.in-Err.fault c.loop-alloc.invariant.piece c.in-Err.ensures.left
+
+pub returns-in-Err-clause-stop : goal.returns-in-Err-clause-stop
+returns-in-Err-clause-stop g c =
+    then_stop (left_of c.args.self.now (g.R.Read.remaining c.args.reader.now)) (left_of c.loop-alloc.self (g.R.Read.remaining c.loop-alloc.reader)) c.args.self.now c.loop-alloc.self (text_by c.args.text.now.history c.args.text.now.lines.items c.args.text.now.callers) (text_by c.loop-alloc.text.history c.loop-alloc.text.lines.items c.loop-alloc.text.callers) (text_by c.take_line.new.text.history c.take_line.new.text.lines.items c.take_line.new.text.callers) c.in-Err.fault c.loop-alloc.invariant.piece c.in-Err.ensures.stop
+
+pub returns-in-Err-clause-unfilled : goal.returns-in-Err-clause-unfilled
+returns-in-Err-clause-unfilled g c = λ bad is.
+    let same : length c.take_line.new.text.history ≡ length c.loop-alloc.text.history = ap (λ t. length t.history) (c.in-Err.ensures.kept bad is) in
+    let held_is = c.loop-alloc.invariant.held_is in
+    let least = c.loop-alloc.invariant.least in
+    let count = c.len.ensures.count in
+    let test = c.loop-alloc-test.true in
+    omega (arith, same, held_is, least, count, test)

@@ -1,0 +1,2 @@
+-- What other crates may cite of the lemmas here.
+pub mod Going
