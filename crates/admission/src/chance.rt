@@ -6,7 +6,7 @@ use policy_laws::PreFlash;
 
 /// Admits as many of 65,536 objects: those whose word, a uniform random number, has its low 16 bits below the
 /// setting. 65536 and all above admit every object, 0 none.
-#[derive(Clone, Copy, Debug, PartialEq, Eq)]
+#[derive(Clone, Copy, PartialEq, Eq)]
 pub struct Chance {
     pub of_65536: u32,
 }

@@ -6,7 +6,7 @@ use crate::judgement::Judgement;
 use record_pages::Prediction;
 
 /// The least number of objects of a set that move from the log together.
-#[derive(Clone, Copy, Debug, PartialEq, Eq)]
+#[derive(Clone, Copy, PartialEq, Eq)]
 pub struct Threshold {
     pub least: u32,
 }

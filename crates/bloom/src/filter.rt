@@ -11,7 +11,7 @@ use std::marker::Model;
 ///
 /// It is the set of the numbers of its bits, so it admits whatever was added since it was empty, and denies
 /// whatever asks for a bit that none of these asked for.
-#[derive(Clone, Debug, Drop)]
+#[derive(Clone, Drop)]
 pub struct Filter {
     words: [u64; 4],
 }

@@ -5,7 +5,7 @@ ghost use Rattle.c_lane.specs.Statuses.{number_of, status_of_miss, is_miss_statu
 use record_pages::MissCause;
 
 /// What a call answers: done, an answer that a cache may always give, or a refusal.
-#[derive(Clone, Copy, Debug, PartialEq, Eq)]
+#[derive(Clone, Copy, PartialEq, Eq)]
 pub enum Status {
     /// Done.
     Done,

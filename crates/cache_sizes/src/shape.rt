@@ -20,7 +20,7 @@ use record_pages::{Config, MAX_MEMORY};
 
 /// The shape of a cache: how many parts of each kind it has. `of` works one out; a caller that has the numbers may
 /// write one down.
-#[derive(Clone, Copy, Debug, PartialEq, Eq)]
+#[derive(Clone, Copy, PartialEq, Eq)]
 pub struct Shape {
     /// Groups of lanes, 1 to 1,024.
     pub shards: u32,

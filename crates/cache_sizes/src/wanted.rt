@@ -5,7 +5,7 @@ use crate::limits::{MAX_ALL_LANES, MAX_OBJECT_BYTES, MAX_THREADS, MIN_FLASH_BYTE
 use crate::size_fault::SizeFault;
 
 /// What a user knows of the cache that is wanted.
-#[derive(Clone, Copy, Debug, PartialEq, Eq)]
+#[derive(Clone, Copy, PartialEq, Eq)]
 pub struct Wanted {
     /// Bytes of flash, at most, of all files together: `MIN_FLASH_BYTES` at least.
     pub flash_bytes: u64,

@@ -4,7 +4,7 @@ use trace_file::Call;
 /// A call of a lane, and the point of time at which it was done.
 ///
 /// The laws on lanes speak of lists of these. Points and stamps are drawn from one clock.
-#[derive(Debug, Drop)]
+#[derive(Drop)]
 pub struct Done {
     /// The call, with its start and end.
     pub call: Call,

@@ -1,7 +1,7 @@
 // Why a hit did not read a put.
 
 /// Why a hit can't have read a put of its key and value.
-#[derive(Clone, Copy, Debug, PartialEq, Eq)]
+#[derive(Clone, Copy, PartialEq, Eq)]
 pub enum Excuse {
     /// The hit ended before the put started.
     Later,
@@ -12,7 +12,7 @@ pub enum Excuse {
 }
 
 /// A put that a hit can't have read.
-#[derive(Clone, Copy, Debug, PartialEq, Eq)]
+#[derive(Clone, Copy, PartialEq, Eq)]
 pub struct Excluded {
     /// The put's position.
     pub put: u32,

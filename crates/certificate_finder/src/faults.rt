@@ -4,7 +4,7 @@ use crate::unread_hit::UnreadHit;
 use crate::witness::Side;
 
 /// A hit that can have read no put of its key and value.
-#[derive(Debug, Drop)]
+#[derive(Drop)]
 pub struct WrongHit {
     /// The hit's position.
     pub hit: u32,
@@ -16,7 +16,7 @@ pub struct WrongHit {
 }
 
 /// Two writes of a key, each of which has to stand before the other.
-#[derive(Clone, Copy, Debug, PartialEq, Eq)]
+#[derive(Clone, Copy, PartialEq, Eq)]
 pub struct CrossedWrites {
     /// One of them.
     pub one: Side,
@@ -25,7 +25,7 @@ pub struct CrossedWrites {
 }
 
 /// All that is wrong with a history. Each number is a position of it.
-#[derive(Debug, Drop)]
+#[derive(Drop)]
 pub struct Faults {
     /// The calls that end before they start, in the order of the history.
     pub reversed: Vec<u32>,

@@ -2,7 +2,7 @@ use crate::witness::Witness;
 use trace_file::Certificate;
 
 /// What was found for a history.
-#[derive(Debug, Drop)]
+#[derive(Drop)]
 pub enum Found {
     /// It is accepted with this certificate.
     Accepted(Certificate),

@@ -2,7 +2,7 @@
 use crate::faults::CrossedWrites;
 
 /// A hit that read no put: whichever it read, two writes of its key would each have to stand before the other.
-#[derive(Debug, Drop)]
+#[derive(Drop)]
 pub struct UnreadHit {
     /// The hit's position.
     pub hit: u32,

@@ -2,7 +2,7 @@
 use trace_file::History;
 
 /// A history with puts for what its cache is taken to have had from the start.
-#[derive(Debug, Drop)]
+#[derive(Drop)]
 pub struct Warmed {
     /// The calls of the history, and after them the puts that were added.
     pub history: History,

@@ -3,7 +3,7 @@ use crate::excluded::Excluded;
 use crate::unread_hit::UnreadHit;
 
 /// A write of a key, and two calls that go with it: each is the write itself, or a hit that can have read no other put.
-#[derive(Clone, Copy, Debug, PartialEq, Eq)]
+#[derive(Clone, Copy, PartialEq, Eq)]
 pub struct Side {
     /// The write's position.
     pub write: u32,
@@ -14,7 +14,7 @@ pub struct Side {
 }
 
 /// Why no order of a history's calls is accepted. Each number is a position of the history.
-#[derive(Debug, Drop)]
+#[derive(Drop)]
 pub enum Witness {
     /// The call here ends before it starts.
     Interval(u32),

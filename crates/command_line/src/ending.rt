@@ -8,7 +8,7 @@ use scripts::{ScriptFault, Scripted};
 use std::process::ExitCode;
 
 /// How the program ends.
-#[derive(Clone, Copy, Debug, PartialEq, Eq)]
+#[derive(Clone, Copy, PartialEq, Eq)]
 pub enum Ending {
     /// All was done: the script ended, or help was given.
     Done,

@@ -2,7 +2,7 @@
 // an example, the exit statuses, and where the manual is.
 
 /// A line of what a command does, and what stands after its options.
-#[derive(Clone, Copy, Debug)]
+#[derive(Clone, Copy)]
 pub struct Help {
     /// What it does.
     pub about: &'static str,

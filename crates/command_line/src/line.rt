@@ -3,7 +3,7 @@ use judge_run::{CheckRequest, JudgeRequest, ShowRequest};
 use load::{Load, ServeLoad};
 
 /// What the words of the command line ask for.
-#[derive(Debug, Drop)]
+#[derive(Drop)]
 pub enum Line {
     /// The script of standard input is to be answered.
     Script,

@@ -17,7 +17,7 @@ const CONFIG: &str =
     "config takes: LANES 1, SETS 1 to 65536, MEMORY 1 to 1048576, SEGMENTS 2 to 256, SEGMENT-PAGES 1 to 64, ENTRIES 1 to 1048576, THRESHOLD 1 to 32, ADMIT 0 to 65536\n";
 
 /// How the program ended, and why the system gave no random numbers, if that is the cause.
-#[derive(Debug, Drop)]
+#[derive(Drop)]
 pub struct ProgramEnd {
     pub ending: Ending,
     without_random: Option<io::Error>,

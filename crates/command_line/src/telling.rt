@@ -54,7 +54,7 @@ pub fn no_file(alloc: Global, subcommand: &str) -> LineFault
 }
 
 /// A subcommand that takes numbers.
-#[derive(Clone, Copy, Debug, PartialEq, Eq)]
+#[derive(Clone, Copy, PartialEq, Eq)]
 pub enum Loading {
     /// `judge`.
     Judge,
@@ -65,7 +65,7 @@ pub enum Loading {
 }
 
 /// The numbers that an option takes.
-#[derive(Clone, Copy, Debug)]
+#[derive(Clone, Copy)]
 struct Range {
     name: &'static str,
     least: u64,

@@ -7,7 +7,7 @@ use crate::row::Row;
 use std::marker::Model;
 
 /// The rows, newest first.
-#[derive(Debug, Drop)]
+#[derive(Drop)]
 pub struct ByAge<'a> {
     pool: &'a EntryPool,
     mark: u32,

@@ -7,7 +7,7 @@ use crate::row::Row;
 use std::marker::Model;
 
 /// The rows, oldest first.
-#[derive(Debug, Drop)]
+#[derive(Drop)]
 pub struct FromOldest<'a> {
     pool: &'a EntryPool,
     mark: u32,

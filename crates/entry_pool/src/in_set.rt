@@ -8,7 +8,7 @@ use crate::row::Row;
 use std::marker::Model;
 
 /// The rows of a set, newest first.
-#[derive(Debug, Drop)]
+#[derive(Drop)]
 pub struct InSet<'a> {
     pool: &'a EntryPool,
     set: u32,

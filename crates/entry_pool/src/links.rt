@@ -11,7 +11,7 @@ use crate::pool_item::PoolItem;
 use record_pages::Prediction;
 
 // The nodes, and the heads of their chains: `NONE` as the number of a node stands for the head.
-#[derive(Debug, Drop)]
+#[derive(Drop)]
 pub(crate) struct Links {
     pub(crate) nodes: Vec<PackedNode>,
     pub(crate) heads: Vec<u32>,

@@ -2,7 +2,7 @@
 use crate::pool_item::PoolItem;
 
 /// An item with its links. A link is the number of another node, or `NONE`.
-#[derive(Clone, Copy, Debug, PartialEq, Eq)]
+#[derive(Clone, Copy, PartialEq, Eq)]
 pub struct Node {
     /// What is noted.
     pub item: PoolItem,

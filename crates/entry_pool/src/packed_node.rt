@@ -7,7 +7,7 @@ use crate::words;
 use std::marker::Model;
 
 /// A node in two words.
-#[derive(Debug, Drop)]
+#[derive(Drop)]
 pub struct PackedNode {
     first: u64,
     second: u64,

@@ -17,7 +17,7 @@ use std::alloc::{AllocError, Global};
 use std::marker::Model;
 
 /// Items in a pool of nodes, chained by age and by set. All memory is taken when it is opened.
-#[derive(Debug, Drop)]
+#[derive(Drop)]
 pub struct EntryPool {
     links: Links,
 }

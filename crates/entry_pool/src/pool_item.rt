@@ -1,7 +1,7 @@
 use record_pages::Prediction;
 
 /// What an index notes of a live record.
-#[derive(Clone, Copy, Debug, PartialEq, Eq)]
+#[derive(Clone, Copy, PartialEq, Eq)]
 pub struct PoolItem {
     /// The set of its key, below 65536.
     pub set: u32,

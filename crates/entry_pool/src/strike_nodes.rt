@@ -6,7 +6,7 @@ use std::alloc::{AllocError, Global};
 
 // The hashes that are struck in sets, each a node of one pool. The nodes of a set are a chain, and so are those that are
 // free. All memory is taken when it is opened.
-#[derive(Debug, Drop)]
+#[derive(Drop)]
 pub(crate) struct StrikeNodes {
     pub(crate) firsts: Vec<u32>,
     pub(crate) counts: Vec<u8>,

@@ -10,7 +10,7 @@ use std::marker::Model;
 
 /// The hashes that are struck in sets: up to `StrikePool::MAX` distinct ones a set, and in all sets together as many as
 /// the pool has places. All memory is taken when it is opened: 12 bytes a place and 5 a set.
-#[derive(Debug, Drop)]
+#[derive(Drop)]
 pub struct StrikePool {
     nodes: StrikeNodes,
 }

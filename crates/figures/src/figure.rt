@@ -1,7 +1,7 @@
 // What goes with a name.
 
 /// What goes with a name.
-#[derive(Clone, Copy, Debug)]
+#[derive(Clone, Copy)]
 pub enum Figure<'a> {
     /// A number.
     Count(u64),

@@ -6,7 +6,7 @@ use crate::telling::{push_json, push_plain};
 use std::alloc::{AllocError, Global};
 
 /// In which form figures are written.
-#[derive(Clone, Copy, Debug, PartialEq, Eq)]
+#[derive(Clone, Copy, PartialEq, Eq)]
 pub enum Form {
     /// A line for each: its name, a space, and the figure.
     Lines,

@@ -2,7 +2,7 @@ use crate::file_open_fault::FileOpenFault;
 use std::alloc::AllocError;
 
 /// Why the files of lanes were not opened.
-#[derive(Debug, Drop)]
+#[derive(Drop)]
 pub enum LaneFileFault {
     /// Memory was refused, here or by the system.
     OutOfMemory,

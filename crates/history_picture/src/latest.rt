@@ -1,7 +1,7 @@
 // What stands before a hit in a certificate.
 
 /// The latest write of a hit's key before it, in the order of a certificate. Each number is a position of the history.
-#[derive(Clone, Copy, Debug, PartialEq, Eq)]
+#[derive(Clone, Copy, PartialEq, Eq)]
 pub enum Latest {
     /// No write of the key stands before the hit.
     Nothing,

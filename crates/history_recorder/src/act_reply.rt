@@ -2,7 +2,7 @@ use crate::reply::Reply;
 use recorded_lane::Noted;
 
 /// What an act of a lane gives.
-#[derive(Debug, Drop)]
+#[derive(Drop)]
 pub(crate) struct ActReply {
     /// The reply to the caller.
     pub(crate) reply: Reply,

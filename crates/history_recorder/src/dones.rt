@@ -12,7 +12,7 @@ use std::marker::Model;
 use trace_file::{CallRef, History};
 
 /// The done calls of one lane, in the order in which they were done. The bytes of all of them lie in one place.
-#[derive(Debug, Drop)]
+#[derive(Drop)]
 pub struct Dones {
     // Each call with its point for its end.
     calls: History,

@@ -4,7 +4,7 @@ use policy_laws::Plan;
 
 /// What happens in a world of lanes and callers, both counted from 0. An event that does not apply is ignored: one of
 /// a caller or a lane that is not there, and one of a caller that is doing something else.
-#[derive(Debug, Drop)]
+#[derive(Drop)]
 pub enum Event {
     /// An idle caller begins a call.
     Begin(u16, Operation),

@@ -2,7 +2,7 @@
 use crate::operation::Operation;
 
 /// A call that began, and was not done yet.
-#[derive(Debug, Drop)]
+#[derive(Drop)]
 pub(crate) struct OpenCall {
     /// The stamp at which it started.
     pub(crate) start: u64,

@@ -6,7 +6,7 @@ use record_pages::{Key, Value};
 use std::alloc::AllocError;
 
 /// What a caller asks of the lane of a key.
-#[derive(Debug, Drop)]
+#[derive(Drop)]
 pub enum Operation {
     /// The value of a key, if it is live at this moment.
     Get(Key, u64),

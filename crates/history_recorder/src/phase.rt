@@ -1,7 +1,7 @@
 use crate::operation::Operation;
 
 /// What a caller is doing.
-#[derive(Debug, Drop)]
+#[derive(Drop)]
 pub(crate) enum Phase {
     /// Nothing: it may begin a call.
     Idle,

@@ -3,7 +3,7 @@ use crate::reply::Replies;
 use trace_file::{Certificate, History};
 
 /// What was played in a world: a reply to each event, and the calls that its lanes recorded, laid out.
-#[derive(Debug, Drop)]
+#[derive(Drop)]
 pub struct Played {
     /// A reply to each event.
     pub replies: Replies,

@@ -7,7 +7,7 @@ use recorded_lane::Noted;
 use trace_file::Call;
 
 /// A recorded call, and its end, once it has one.
-#[derive(Debug, Drop)]
+#[derive(Drop)]
 pub(crate) struct RecordedCall {
     /// The call, as its lane recorded it.
     pub(crate) noted: Noted,

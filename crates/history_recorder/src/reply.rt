@@ -6,7 +6,7 @@ use std::alloc::AllocError;
 
 /// What an event is replied. The steps of a lane are replied with their result, a refusal included; an act that is
 /// refused ends its call, which is then in no history.
-#[derive(Debug, Drop)]
+#[derive(Drop)]
 pub enum Reply {
     /// The event did not apply, and nothing changed.
     Ignored,

@@ -5,7 +5,7 @@ use crate::line_cause::LineCause;
 use std::fmt;
 
 /// The first bad line of a text, and why it is bad.
-#[derive(Clone, Copy, Debug, PartialEq, Eq)]
+#[derive(Clone, Copy, PartialEq, Eq)]
 pub struct BadLine {
     /// The number of the line; the first line has the number 1.
     pub number: u64,

@@ -5,7 +5,7 @@ use std::fmt;
 
 /// Why a line of a text is bad. A line has the first cause in this order: those of the whole line, then those of its words
 /// from the first to the last, and then those of a history that is full.
-#[derive(Clone, Copy, Debug, PartialEq, Eq)]
+#[derive(Clone, Copy, PartialEq, Eq)]
 pub enum LineCause {
     /// The line has more than 8,192 bytes.
     TooLong,

@@ -5,7 +5,7 @@ use crate::line_cause::LineCause;
 use trace_file::ActRef;
 
 /// What a call did, without its value and time.
-#[derive(Clone, Copy, Debug, PartialEq, Eq)]
+#[derive(Clone, Copy, PartialEq, Eq)]
 pub(crate) enum LineKind {
     Put,
     Hit,

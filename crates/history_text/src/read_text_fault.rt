@@ -5,7 +5,7 @@ use crate::bad_line::BadLine;
 use script_words::ReadLineFault;
 
 /// Why a text was not read.
-#[derive(Clone, Copy, Debug, PartialEq, Eq)]
+#[derive(Clone, Copy, PartialEq, Eq)]
 pub enum ReadTextFault {
     /// This line is the first bad one.
     Bad(BadLine),

@@ -2,7 +2,7 @@
 use crate::share::Share;
 
 /// How a text is read: which of its calls, and what a bad line means.
-#[derive(Clone, Copy, Debug, PartialEq, Eq)]
+#[derive(Clone, Copy, PartialEq, Eq)]
 pub struct Reading {
     /// The keys whose calls are read. A line whose call is of another key is left out, and does not number its caller.
     pub share: Share,

@@ -6,7 +6,7 @@ use set_hash::hash;
 
 /// A share of all keys: those whose hash leaves this remainder. The hash is FNV-1a with 64 bits of the bytes of the key. So runs
 /// that read the shares 0 to N - 1 of N read the calls of each key once, on whichever machines they run.
-#[derive(Clone, Copy, Debug, PartialEq, Eq)]
+#[derive(Clone, Copy, PartialEq, Eq)]
 pub struct Share {
     part: u32,
     of: u32,

@@ -5,7 +5,7 @@ use crate::line_cause::LineCause;
 use std::alloc::AllocError;
 
 /// Why a line, or a word of one, was not taken.
-#[derive(Clone, Copy, Debug, PartialEq, Eq)]
+#[derive(Clone, Copy, PartialEq, Eq)]
 pub enum TextFault {
     /// It spells no call, or none that the history has room for.
     Bad(LineCause),

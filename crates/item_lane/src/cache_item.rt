@@ -6,7 +6,7 @@ ghost use Rattle.item_lane.specs.Cells.{Kept, IsHead, kept_shown, cell_text, dec
 use crate::head::{EXPIRES, FLAGS, Head, STALE, WON};
 
 /// An item whose data is lent, by a client's request or by a cell.
-#[derive(Clone, Copy, Debug)]
+#[derive(Clone, Copy)]
 pub struct CacheItem<'a> {
     /// What is kept of it beside the data.
     pub head: Head,

@@ -8,7 +8,7 @@ use crate::command_reply::CommandReply;
 use crate::head::Head;
 
 /// An item whose data are two parts, one after the other.
-#[derive(Clone, Copy, Debug)]
+#[derive(Clone, Copy)]
 pub(crate) struct ItemParts<'a> {
     pub(crate) head: Head,
     pub(crate) front: &'a [u8],
@@ -29,7 +29,7 @@ impl<'a> ItemParts<'a> {
 }
 
 /// What a command does about the item that it saw, with its reply.
-#[derive(Clone, Copy, Debug)]
+#[derive(Clone, Copy)]
 pub(crate) enum CommandVerdict<'a> {
     /// It keeps what is there.
     Keep(CommandReply),

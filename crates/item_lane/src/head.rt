@@ -19,7 +19,7 @@ pub(crate) const EXPIRES: u8 = 8;
 
 /// What is kept of an item beside its data. It takes 9 bytes of the item's cell, 4 more if the flags are not 0, and 4 more if
 /// the item expires.
-#[derive(Clone, Copy, Debug, PartialEq, Eq)]
+#[derive(Clone, Copy, PartialEq, Eq)]
 pub struct Head {
     /// The client's flags, which nobody else reads.
     pub flags: u32,

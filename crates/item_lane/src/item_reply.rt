@@ -5,7 +5,7 @@ use crate::command_reply::CommandReply;
 use record_pages::PutFault;
 
 /// An item, and what a meta command about it replied.
-#[derive(Clone, Copy, Debug)]
+#[derive(Clone, Copy)]
 pub struct ItemReply<'a> {
     /// The live item as it was, if there was one.
     pub item: Option<CacheItem<'a>>,

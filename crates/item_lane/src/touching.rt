@@ -20,7 +20,7 @@ use service_lane::ServiceLane;
 use std::alloc::Global;
 
 /// An item, and what a touch of it replied.
-#[derive(Clone, Copy, Debug)]
+#[derive(Clone, Copy)]
 pub struct Touched<'a> {
     /// The live item as it was, if there is one.
     pub item: Option<CacheItem<'a>>,

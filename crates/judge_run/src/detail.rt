@@ -1,7 +1,7 @@
 // What is reported of a history beside its verdict.
 
 /// What is wanted beside the verdict of a history that is rejected.
-#[derive(Clone, Copy, Debug, PartialEq, Eq)]
+#[derive(Clone, Copy, PartialEq, Eq)]
 pub struct Detail {
     /// Whether it is said why the history is rejected.
     pub explain: bool,

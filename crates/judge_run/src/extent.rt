@@ -2,7 +2,7 @@
 use crate::forgotten::Forgotten;
 
 /// How the calls that are judged differ from those that a text spells. Each is there if that was asked for.
-#[derive(Clone, Copy, Debug, PartialEq, Eq)]
+#[derive(Clone, Copy, PartialEq, Eq)]
 pub struct Extent {
     /// How many values were taken as there from the start. So many puts were added after the calls of the text.
     pub from_start: Option<usize>,

@@ -2,7 +2,7 @@
 
 /// How many calls were judged and then forgotten, by kind. They stood on the lines before those of the calls that are held, of
 /// which a text has fewer than 2^32.
-#[derive(Clone, Copy, Debug, PartialEq, Eq)]
+#[derive(Clone, Copy, PartialEq, Eq)]
 pub struct Forgotten {
     /// How many puts.
     pub puts: u32,

@@ -6,7 +6,7 @@ use crate::outcome::Outcome;
 use crate::tell_fault::TellFault;
 
 /// How the program ends that judged a history, checked a trace or showed one.
-#[derive(Clone, Copy, Debug, PartialEq, Eq)]
+#[derive(Clone, Copy, PartialEq, Eq)]
 pub enum JudgeEnd {
     /// All was done: the history was accepted, or the trace was shown.
     Done,

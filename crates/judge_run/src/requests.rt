@@ -4,7 +4,7 @@ use crate::scope::Scope;
 use trace_file::FileName;
 
 /// The history that is to be judged, and what is wanted beside its verdict.
-#[derive(Debug, Drop)]
+#[derive(Drop)]
 pub struct JudgeRequest {
     /// The file of the text; `-` is the standard input.
     pub file: FileName,
@@ -28,7 +28,7 @@ pub struct JudgeRequest {
 }
 
 /// The trace that is to be judged, and what is wanted beside its verdict.
-#[derive(Debug, Drop)]
+#[derive(Drop)]
 pub struct CheckRequest {
     /// The file of the trace.
     pub file: FileName,
@@ -41,7 +41,7 @@ pub struct CheckRequest {
 }
 
 /// The trace that is to be written as text.
-#[derive(Debug, Drop)]
+#[derive(Drop)]
 pub struct ShowRequest {
     /// The file of the trace.
     pub file: FileName,

@@ -2,7 +2,7 @@
 use history_text::Reading;
 
 /// What of the calls that a text spells is judged.
-#[derive(Clone, Copy, Debug, PartialEq, Eq)]
+#[derive(Clone, Copy, PartialEq, Eq)]
 pub struct Scope {
     /// By how much each stamp may differ from the truth, in the unit of the stamps. Each call is judged as if it had started so much
     /// earlier and ended so much later; what it put expires so much later, and the moment of a hit is so much earlier.

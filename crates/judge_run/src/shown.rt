@@ -1,7 +1,7 @@
 use trace_file::TraceFault;
 
 /// The outcome of writing a trace as text.
-#[derive(Clone, Copy, Debug, PartialEq, Eq)]
+#[derive(Clone, Copy, PartialEq, Eq)]
 pub enum Shown {
     /// All was written.
     Whole,

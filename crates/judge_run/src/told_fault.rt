@@ -2,7 +2,7 @@
 use certificate_finder::Witness;
 
 /// A fault of a history that is rejected, as it is told.
-#[derive(Debug, Drop)]
+#[derive(Drop)]
 pub struct ToldFault {
     /// The reason. Of the puts of a wrong hit it has the first eight.
     pub reason: Witness,

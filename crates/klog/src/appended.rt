@@ -1,7 +1,7 @@
 // What became of a record that was to enter the log.
 
 /// What became of a record that was to enter the log.
-#[derive(Clone, Copy, Debug, PartialEq, Eq)]
+#[derive(Clone, Copy, PartialEq, Eq)]
 pub enum Appended {
     /// It is the newest live record of the log.
     Appended,

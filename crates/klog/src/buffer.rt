@@ -36,7 +36,7 @@ impl<const PAGE: usize> fmt::Debug for SegmentBuffer<PAGE> {
 }
 
 /// Where a record lies in a segment.
-#[derive(Clone, Copy, Debug)]
+#[derive(Clone, Copy)]
 pub(crate) struct Spot {
     /// The page, from 0.
     pub(crate) page: usize,

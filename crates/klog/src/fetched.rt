@@ -1,7 +1,7 @@
 use record_pages::RecordRef;
 
 /// What the reading of an entry's record gave.
-#[derive(Clone, Copy, Debug)]
+#[derive(Clone, Copy)]
 pub(crate) enum Fetched<'a> {
     /// The record, which has the entry's set and tag.
     Record(RecordRef<'a>),

@@ -1,7 +1,7 @@
 // What a flush step did.
 
 /// What a flush step did.
-#[derive(Clone, Copy, Debug, PartialEq, Eq)]
+#[derive(Clone, Copy, PartialEq, Eq)]
 pub enum Flushed {
     /// There was nothing to do.
     Nothing,

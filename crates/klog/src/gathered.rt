@@ -2,7 +2,7 @@ use crate::taken_record::TakenRecords;
 use klog_index::Entry;
 
 /// What a reading of a set's records gave.
-#[derive(Debug, Drop)]
+#[derive(Drop)]
 pub(crate) enum Gathered {
     /// The newest live records of the set, newest first.
     Records(TakenRecords),

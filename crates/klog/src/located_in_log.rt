@@ -2,7 +2,7 @@
 use klog_index::Entry;
 
 /// What a search for a key in the log finds at a moment.
-#[derive(Clone, Copy, Debug, PartialEq, Eq)]
+#[derive(Clone, Copy, PartialEq, Eq)]
 pub enum LocatedInLog {
     /// The newest live record with the key is this entry's. It is live at the moment, expires then (`NEVER` if it does not),
     /// and its value is in the buffer.

@@ -29,7 +29,7 @@ use std::marker::Model;
 /// comes at most one that is being flushed; and then the one that is being filled.
 ///
 /// The device is lent to each call that needs it. No page below the number of sets is written.
-#[derive(Debug, Drop)]
+#[derive(Drop)]
 pub struct KLog<const PAGE: usize> {
     layout: Layout,
     index: LogIndex,

@@ -1,7 +1,7 @@
 // How full a log is.
 
 /// How full a log is: what decides when a page of it is to be written, and when its records are to move.
-#[derive(Clone, Copy, Debug, PartialEq, Eq)]
+#[derive(Clone, Copy, PartialEq, Eq)]
 pub struct LogUsage {
     /// For how many segments the device has places.
     pub segments: u32,

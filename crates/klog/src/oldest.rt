@@ -1,7 +1,7 @@
 use klog_index::Entry;
 
 /// What is live in the oldest segment on the device.
-#[derive(Clone, Copy, Debug, PartialEq, Eq)]
+#[derive(Clone, Copy, PartialEq, Eq)]
 pub enum Oldest {
     /// No segment is on the device.
     NoSegment,

@@ -1,7 +1,7 @@
 // What became of a record that was to enter the log anew.
 
 /// What became of a record that was to enter the log anew.
-#[derive(Clone, Copy, Debug, PartialEq, Eq)]
+#[derive(Clone, Copy, PartialEq, Eq)]
 pub enum Readmitted {
     /// It is the newest live record of the log.
     Readmitted,

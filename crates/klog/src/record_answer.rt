@@ -1,7 +1,7 @@
 // What the record of an entry says of a key.
 
 /// What the record of an entry says of a key.
-#[derive(Clone, Copy, Debug)]
+#[derive(Clone, Copy)]
 pub(crate) enum RecordAnswer {
     /// It has the key and is live at the moment, expires then, and its value is in the buffer.
     Hit(u64),

@@ -1,7 +1,7 @@
 use crate::taken_record::TakenRecords;
 
 /// What a taking of a set's records answers.
-#[derive(Debug, Drop)]
+#[derive(Drop)]
 pub enum SetTaken {
     /// The newest live records of the set, at most 32, newest first. They stay in the log.
     Records(TakenRecords),

@@ -7,7 +7,7 @@ use klog_index::{Entry, EntryTest};
 use std::marker::Model;
 
 /// The entries that records were taken of, if the segments that are held have these numbers and this many names.
-#[derive(Debug, Drop)]
+#[derive(Drop)]
 pub(crate) struct Sources<'a> {
     pub(crate) taken: &'a TakenRecords,
     pub(crate) first: u64,

@@ -3,7 +3,7 @@ use klog_index::Place;
 use record_pages::{ItemList, Record};
 
 /// A live record of the log, as it was taken.
-#[derive(Debug, Drop, PartialEq, Eq)]
+#[derive(Drop, PartialEq, Eq)]
 pub struct TakenRecord {
     /// Its key, its value, and the prediction that its entry has now.
     pub stored: Record,

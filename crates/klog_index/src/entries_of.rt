@@ -8,7 +8,7 @@ use entry_pool::{InSet, PoolItem};
 use std::marker::Model;
 
 /// The entries of a set, newest first.
-#[derive(Debug, Drop)]
+#[derive(Drop)]
 pub struct EntriesOf<'a> {
     rows: InSet<'a>,
 }

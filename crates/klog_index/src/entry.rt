@@ -3,7 +3,7 @@ use crate::place::Place;
 use record_pages::Prediction;
 
 /// A live record of the log, as the index knows it.
-#[derive(Clone, Copy, Debug, PartialEq, Eq)]
+#[derive(Clone, Copy, PartialEq, Eq)]
 pub struct Entry {
     /// The set of its key.
     pub set: u32,

@@ -17,7 +17,7 @@ pub trait EntryTest {
 }
 
 // The entry has this tag.
-#[derive(Clone, Copy, Debug)]
+#[derive(Clone, Copy)]
 pub(crate) struct HasTag {
     pub(crate) tag: u16,
 }
@@ -31,7 +31,7 @@ impl EntryTest for HasTag {
 }
 
 // The entry lies at this place.
-#[derive(Clone, Copy, Debug)]
+#[derive(Clone, Copy)]
 pub(crate) struct LiesAt {
     pub(crate) place: Place,
 }

@@ -14,7 +14,7 @@ use std::alloc::{AllocError, Global};
 use std::marker::Model;
 
 /// The live records of a log. All memory is taken when it is opened.
-#[derive(Debug, Drop)]
+#[derive(Drop)]
 pub struct LogIndex {
     pool: EntryPool,
 }

@@ -1,7 +1,7 @@
 // Where a record lies.
 
 /// Where a record of the log lies.
-#[derive(Clone, Copy, Debug, PartialEq, Eq)]
+#[derive(Clone, Copy, PartialEq, Eq)]
 pub struct Place {
     /// The name of its segment, below 258.
     pub segment: u16,

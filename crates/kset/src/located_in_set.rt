@@ -1,7 +1,7 @@
 // Where a set has a key.
 
 /// What a look-up of a key in a set finds, whose value goes into room of the caller's.
-#[derive(Clone, Copy, Debug, PartialEq, Eq)]
+#[derive(Clone, Copy, PartialEq, Eq)]
 pub enum LocatedInSet {
     /// The first visible record with the key lies in this slot of the set's page. It is live at the moment, expires then
     /// (`NEVER` if it does not), and its value is in the buffer.

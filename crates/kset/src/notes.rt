@@ -13,7 +13,7 @@ use set_hash::{Placed, place};
 use std::marker::Model;
 
 /// What memory notes of one set beside its strikes: its filter and its hits.
-#[derive(Debug, Drop)]
+#[derive(Drop)]
 pub(crate) struct SetNotes {
     filter: Filter,
     hits: HitBits,

@@ -1,7 +1,7 @@
 // What became of a rewriting.
 
 /// What became of a set whose page was to be written anew.
-#[derive(Clone, Copy, Debug, PartialEq, Eq)]
+#[derive(Clone, Copy, PartialEq, Eq)]
 pub enum Rewritten {
     /// The page was written, and the set has just its records.
     Written,

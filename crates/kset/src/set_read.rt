@@ -1,7 +1,7 @@
 use crate::set_record::SetRecords;
 
 /// What a reading of a whole set answers.
-#[derive(Debug, Drop)]
+#[derive(Drop)]
 pub enum SetRead {
     /// The visible records of the set, in page order.
     Records(SetRecords),

@@ -2,7 +2,7 @@
 use record_pages::{ItemList, Record};
 
 /// A visible record of a set.
-#[derive(Debug, Drop, PartialEq, Eq)]
+#[derive(Drop, PartialEq, Eq)]
 pub struct SetRecord {
     /// The record as it stands on the page.
     pub stored: Record,

@@ -15,7 +15,7 @@ use std::marker::Model;
 
 /// What memory notes of all sets: of each its filter and its hits, the strikes of all in one pool, and how many pages were
 /// tried.
-#[derive(Debug, Drop)]
+#[derive(Drop)]
 pub(crate) struct SetTable {
     writes: u64,
     notes: Vec<SetNotes>,

@@ -26,7 +26,7 @@ use std::marker::Model;
 /// of that page, up to eight strikes and the hits since the page was written.
 ///
 /// The device is lent to each call that needs it. No page from the number of sets on is written.
-#[derive(Debug, Drop)]
+#[derive(Drop)]
 pub struct KSet<const PAGE: usize> {
     layout: Layout,
     sets: SetTable,

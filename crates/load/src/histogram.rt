@@ -35,7 +35,7 @@ impl Model for Histogram {
 }
 
 /// Four figures of a histogram, in nanoseconds: the times that 500, 990, 999 and all of 1000 calls do not exceed.
-#[derive(Clone, Copy, Debug, PartialEq, Eq)]
+#[derive(Clone, Copy, PartialEq, Eq)]
 pub struct Quantiles {
     pub p50: u64,
     pub p99: u64,

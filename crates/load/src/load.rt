@@ -6,7 +6,7 @@ use trace_file::FileName;
 
 /// What a run is asked for: the cache, its callers and workers, their operations, and the files. Each
 /// number is in the range of its `Setting`.
-#[derive(Debug, Drop)]
+#[derive(Drop)]
 pub struct Load {
     /// The numbers of the cache.
     pub layout: Layout,

@@ -6,7 +6,7 @@ use trace_file::FileName;
 
 /// What a load of a cache that serves is asked for: the cache, its callers and workers, their operations, and the files. Each
 /// number is in the range of its `Setting`.
-#[derive(Debug, Drop)]
+#[derive(Drop)]
 pub struct ServeLoad {
     /// The numbers of each shard. If a size is given, only its threshold and its admission count.
     pub layout: Layout,

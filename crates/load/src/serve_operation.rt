@@ -8,7 +8,7 @@ use rand_pcg::Lcg64Xsh32;
 use zipf::Ranks;
 
 /// What a caller of a cache that serves does with the key of its own that has this number.
-#[derive(Clone, Copy, Debug, PartialEq, Eq)]
+#[derive(Clone, Copy, PartialEq, Eq)]
 pub enum ServeOperation {
     /// It looks the key up.
     Get(u32),

@@ -8,7 +8,7 @@ use record_pages::Field;
 use std::ops::RangeInclusive;
 
 /// A number of a load, which an option of its name gives.
-#[derive(Clone, Copy, Debug, PartialEq, Eq)]
+#[derive(Clone, Copy, PartialEq, Eq)]
 pub enum Setting {
     /// Lanes: the independent parts of the cache.
     Lanes,

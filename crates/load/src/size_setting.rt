@@ -5,7 +5,7 @@ ghost use Rattle.load.specs.Sizes.{name_of};
 
 /// A size of a load of a cache that serves, in bytes, which an option of its name gives. None is given if there is no such
 /// option.
-#[derive(Clone, Copy, Debug, PartialEq, Eq)]
+#[derive(Clone, Copy, PartialEq, Eq)]
 pub enum SizeSetting {
     /// Bytes of flash, of all lanes together.
     Size,

@@ -4,7 +4,7 @@ use std::io;
 use std::io::Write;
 
 /// What of the system failed under a load.
-#[derive(Debug, Drop)]
+#[derive(Drop)]
 pub enum SystemFault {
     /// The file of a lane's device, of this name, was not opened, for this reason.
     Device(String, FileOpenFault),

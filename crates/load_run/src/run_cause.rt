@@ -5,7 +5,7 @@ use std::io;
 use std::io::Write;
 
 /// What is to be told of a run beside its end.
-#[derive(Debug, Drop)]
+#[derive(Drop)]
 pub enum RunCause {
     /// This of the system failed.
     System(SystemFault),

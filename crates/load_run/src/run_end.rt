@@ -10,7 +10,7 @@ use std::io;
 use std::io::Write;
 
 /// How a run ended.
-#[derive(Clone, Copy, Debug, PartialEq, Eq)]
+#[derive(Clone, Copy, PartialEq, Eq)]
 pub enum RunEnd {
     /// Its history was accepted, and each caller made all its calls.
     Accepted,

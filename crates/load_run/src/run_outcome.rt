@@ -9,7 +9,7 @@ use load::SystemFault;
 use shared_cache::FinishFault;
 
 /// How a run ended, and what failed, if a file, the output or the system did.
-#[derive(Debug, Drop)]
+#[derive(Drop)]
 pub struct RunOutcome {
     pub end: RunEnd,
     pub cause: Option<RunCause>,

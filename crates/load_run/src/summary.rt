@@ -8,7 +8,7 @@ use figures::{Figure, Form, tell_verdict};
 use std::alloc::{AllocError, Global};
 
 /// What is reported of a run that was judged.
-#[derive(Clone, Copy, Debug, PartialEq, Eq)]
+#[derive(Clone, Copy, PartialEq, Eq)]
 pub struct Summary {
     /// Recorded calls.
     pub calls: usize,

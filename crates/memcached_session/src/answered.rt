@@ -9,7 +9,7 @@ use crate::unserved::Unserved;
 use memcached_text::TextAnswer;
 
 /// An answer of a session.
-#[derive(Clone, Copy, Debug)]
+#[derive(Clone, Copy)]
 pub(crate) enum SessionAnswer<'a> {
     /// One of the protocol.
     Text(TextAnswer<'a>),
@@ -18,7 +18,7 @@ pub(crate) enum SessionAnswer<'a> {
 }
 
 /// What a step answers, and how it went.
-#[derive(Clone, Copy, Debug)]
+#[derive(Clone, Copy)]
 pub(crate) struct Answered<'a> {
     /// The answer; `None` if none is wanted.
     pub(crate) answer: Option<SessionAnswer<'a>>,

@@ -15,7 +15,7 @@ use memcached_text::{
 };
 
 /// What a step asks of the lane of its key.
-#[derive(Clone, Copy, Debug)]
+#[derive(Clone, Copy)]
 pub(crate) enum Keyed<'a> {
     /// One key of `get` or `gets`.
     Get {

@@ -15,7 +15,7 @@ use memcached_text::{
 };
 
 /// What of an item can be returned.
-#[derive(Clone, Copy, Debug, PartialEq, Eq)]
+#[derive(Clone, Copy, PartialEq, Eq)]
 pub(crate) struct Returned {
     /// Its cas unique.
     pub(crate) cas: Option<u64>,
@@ -65,7 +65,7 @@ pub(crate) fn no_marks() -> MetaMarks
 }
 
 /// An answer to a meta command: how it went, what of the item can be returned, and what is said unasked.
-#[derive(Clone, Copy, Debug)]
+#[derive(Clone, Copy)]
 pub(crate) struct MetaShown<'a> {
     pub(crate) status: MetaStatus<'a>,
     pub(crate) returned: Returned,
@@ -73,7 +73,7 @@ pub(crate) struct MetaShown<'a> {
 }
 
 /// What is answered to a meta command.
-#[derive(Clone, Copy, Debug)]
+#[derive(Clone, Copy)]
 pub(crate) enum MetaReply<'a> {
     /// Nothing.
     Quiet,

@@ -10,7 +10,7 @@ use crate::stats_kind::StatsKind;
 use memcached_text::{ReaderState, StreamEvent, TextRequest};
 
 /// What the next step of a session needs of its server.
-#[derive(Clone, Copy, Debug)]
+#[derive(Clone, Copy)]
 pub enum Want<'a> {
     /// The lane of this key: `lane_step`.
     Lane {
@@ -24,7 +24,7 @@ pub enum Want<'a> {
 }
 
 /// What a step that needs no lane needs of its server.
-#[derive(Clone, Copy, Debug, PartialEq, Eq)]
+#[derive(Clone, Copy, PartialEq, Eq)]
 pub enum Need {
     /// More bytes: nothing would be taken.
     More,

@@ -1,7 +1,7 @@
 // What a server answers to a meta command.
 
 /// What a server answers to a meta command.
-#[derive(Clone, Copy, Debug)]
+#[derive(Clone, Copy)]
 pub struct MetaAnswer<'a> {
     /// How it went.
     pub status: MetaStatus<'a>,
@@ -14,7 +14,7 @@ pub struct MetaAnswer<'a> {
 }
 
 /// How a meta command went.
-#[derive(Clone, Copy, Debug)]
+#[derive(Clone, Copy)]
 pub enum MetaStatus<'a> {
     /// `HD`: it was done.
     Header,
@@ -31,7 +31,7 @@ pub enum MetaStatus<'a> {
 }
 
 /// What can be returned of a request and its item. What is `None` is not returned, though it was asked for.
-#[derive(Clone, Copy, Debug)]
+#[derive(Clone, Copy)]
 pub struct MetaFields<'a> {
     /// `k`: the key as it stands in the line.
     pub key: &'a [u8],
@@ -52,7 +52,7 @@ pub struct MetaFields<'a> {
 }
 
 /// How long an item lives.
-#[derive(Clone, Copy, Debug, PartialEq, Eq)]
+#[derive(Clone, Copy, PartialEq, Eq)]
 pub enum Ttl {
     /// It does not expire: -1.
     Unlimited,
@@ -61,7 +61,7 @@ pub enum Ttl {
 }
 
 /// What is said of an item unasked.
-#[derive(Clone, Copy, Debug, PartialEq, Eq)]
+#[derive(Clone, Copy, PartialEq, Eq)]
 pub struct MetaMarks {
     /// `Z`: another client was told to bring a new value.
     pub is_awaited: bool,

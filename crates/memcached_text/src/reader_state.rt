@@ -3,7 +3,7 @@
 use crate::exptime::Exptime;
 
 /// Where a reader of requests stands.
-#[derive(Clone, Copy, Debug)]
+#[derive(Clone, Copy)]
 pub enum ReaderState {
     /// At the start of a line.
     Line,

@@ -490,7 +490,7 @@ fn decide<'a>(most: u32, state: ReaderState, bytes: &'a [u8]) -> Given<'a>
 
 /// A reader of requests that come in pieces, cut anywhere. It keeps no bytes: those that it did not take are fed
 /// again, with what comes after them.
-#[derive(Clone, Copy, Debug)]
+#[derive(Clone, Copy)]
 pub struct RequestReader {
     /// The most bytes of a data block that is taken; a longer one is passed over as it comes.
     pub max_data_len: u32,

@@ -33,7 +33,7 @@ pub enum StreamEvent<'a> {
 }
 
 /// What a reader of requests gives, and how many of the bytes that were fed it took.
-#[derive(Clone, Copy, Debug)]
+#[derive(Clone, Copy)]
 pub struct StreamStep<'a> {
     /// How many bytes were taken: the rest is to be fed again, with what comes after it.
     pub taken: usize,

@@ -5,7 +5,7 @@ use crate::line_error::LineError;
 use crate::meta_answer::MetaAnswer;
 
 /// What a server answers. Keys and data are lent by the caller.
-#[derive(Clone, Copy, Debug)]
+#[derive(Clone, Copy)]
 pub enum TextAnswer<'a> {
     /// A value that `get` or one of its kind found.
     Value(ValueFound<'a>),
@@ -24,7 +24,7 @@ pub enum TextAnswer<'a> {
 }
 
 /// A value that was found.
-#[derive(Clone, Copy, Debug)]
+#[derive(Clone, Copy)]
 pub struct ValueFound<'a> {
     /// Its key.
     pub key: &'a [u8],

@@ -29,7 +29,7 @@ pub enum MetaCommand {
 }
 
 /// The classic command that a line's first word names, or `mn`.
-#[derive(Clone, Copy, Debug, PartialEq, Eq)]
+#[derive(Clone, Copy, PartialEq, Eq)]
 pub(crate) enum Verb {
     Get,
     Gets,

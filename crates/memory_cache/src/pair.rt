@@ -2,7 +2,7 @@
 use record_pages::{Key, TimedValue};
 
 /// A key and its value with when that expires.
-#[derive(Debug, Drop)]
+#[derive(Drop)]
 pub struct Pair {
     pub key: Key,
     pub value: TimedValue,

@@ -1,7 +1,7 @@
 // Whether a move was given up.
 
 /// Whether a move was given up.
-#[derive(Clone, Copy, Debug, PartialEq, Eq)]
+#[derive(Clone, Copy, PartialEq, Eq)]
 pub enum Aborted {
     /// The move is over.
     Aborted,

@@ -1,7 +1,7 @@
 use policy_laws::Job;
 
 /// How a move began.
-#[derive(Debug, Drop)]
+#[derive(Drop)]
 pub enum Begin {
     /// No segment is on the device, or as many moves began as a store begins.
     Nothing,

@@ -1,7 +1,7 @@
 // How a move ended by a plan.
 
 /// How a move ended by a plan, or why it did not.
-#[derive(Clone, Copy, Debug, PartialEq, Eq)]
+#[derive(Clone, Copy, PartialEq, Eq)]
 pub enum Committed {
     /// The set's page was written.
     Written,

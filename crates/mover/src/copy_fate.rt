@@ -1,7 +1,7 @@
 // What became of a copy that left memory.
 
 /// What became of a copy that memory had no room for.
-#[derive(Clone, Copy, Debug, PartialEq, Eq)]
+#[derive(Clone, Copy, PartialEq, Eq)]
 pub enum CopyFate {
     /// The tiers on flash may show its key, so it was dropped.
     Known,

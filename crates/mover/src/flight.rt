@@ -5,7 +5,7 @@ use crate::marks::Marks;
 use crate::moving::Moving;
 
 /// A move in flight: its number, its set and its records, and a mark for each of these.
-#[derive(Debug, Drop)]
+#[derive(Drop)]
 pub(crate) struct Flight {
     pub(crate) moving: Moving,
     pub(crate) marks: Marks,

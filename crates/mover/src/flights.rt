@@ -9,7 +9,7 @@ use std::marker::Model;
 pub(crate) const MAX_FLIGHTS: usize = 8;
 
 /// The moves in flight, in the order in which they began. All room is taken when it is opened.
-#[derive(Debug, Drop)]
+#[derive(Drop)]
 pub(crate) struct Flights {
     flights: Vec<Flight>,
     // The set of each.

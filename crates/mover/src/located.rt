@@ -10,7 +10,7 @@ use record_pages::{Answer, MissCause, Tier, Value, ValueBuffer};
 use std::alloc::{AllocError, Global};
 
 /// Where a store has the value of a key, which a touch then notes as asked for; or why it has none.
-#[derive(Clone, Copy, Debug)]
+#[derive(Clone, Copy)]
 pub(crate) enum Located {
     /// In memory; it expires then.
     Memory { expires: u64 },

@@ -6,7 +6,7 @@ use set_hash::hash;
 
 /// What is noted of an item of a move in flight: the hash of its key, and whether a key of that hash was struck since
 /// the move began.
-#[derive(Clone, Copy, Debug)]
+#[derive(Clone, Copy)]
 pub(crate) struct Mark {
     pub(crate) hash: u64,
     pub(crate) struck: bool,

@@ -2,7 +2,7 @@
 use record_pages::TimedValue;
 
 /// What memory has of a key at a moment.
-#[derive(Clone, Copy, Debug)]
+#[derive(Clone, Copy)]
 pub(crate) enum MemoryAnswer<'a> {
     /// This value, which is live.
     Live(&'a TimedValue),

@@ -11,7 +11,7 @@ use record_pages::{PAGE_OVERHEAD, Record};
 use std::alloc::{AllocError, Global};
 
 /// The records that a move of a set is about: those of its page, in page order, then those of the log, newest first.
-#[derive(Debug, Drop)]
+#[derive(Drop)]
 pub(crate) struct Moving {
     pub(crate) number: u64,
     pub(crate) set: u32,

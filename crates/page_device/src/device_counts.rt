@@ -1,7 +1,7 @@
 // What a device was asked.
 
 /// What a device was asked since it was counted first, each number modulo 2^64.
-#[derive(Clone, Copy, Debug, PartialEq, Eq)]
+#[derive(Clone, Copy, PartialEq, Eq)]
 pub struct DeviceCounts {
     /// Pages that were read.
     pub pages_read: u64,

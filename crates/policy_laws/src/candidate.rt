@@ -6,7 +6,7 @@ use record_pages::Prediction;
 use std::cmp::Ordering;
 
 /// An item that a policy may keep.
-#[derive(Clone, Copy, Debug, PartialEq, Eq)]
+#[derive(Clone, Copy, PartialEq, Eq)]
 pub struct Candidate {
     /// The number of the item in its job.
     pub item: usize,

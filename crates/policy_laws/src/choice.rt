@@ -2,7 +2,7 @@
 use record_pages::{ItemList, Prediction};
 
 /// An item that is kept, and the prediction that it is written with.
-#[derive(Clone, Copy, Debug, PartialEq, Eq)]
+#[derive(Clone, Copy, PartialEq, Eq)]
 pub struct Choice {
     /// The number of the item in its job.
     pub item: usize,

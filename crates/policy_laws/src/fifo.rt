@@ -14,7 +14,7 @@ use crate::ranking::plan_by_rank;
 use std::alloc::{AllocError, Global};
 
 /// Keeps the fresh items first, by number, then the old ones, by number. Predictions stay as they are.
-#[derive(Clone, Copy, Debug, PartialEq, Eq)]
+#[derive(Clone, Copy, PartialEq, Eq)]
 pub struct Fifo;
 
 impl EvictionPolicy for Fifo {

@@ -2,7 +2,7 @@
 use record_pages::{ItemList, Prediction};
 
 /// What a policy knows of an item: no key, no value.
-#[derive(Clone, Copy, Debug, PartialEq, Eq)]
+#[derive(Clone, Copy, PartialEq, Eq)]
 pub struct Item {
     /// How many bytes it takes on a page.
     pub size: u32,

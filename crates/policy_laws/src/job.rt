@@ -2,7 +2,7 @@
 use crate::item::Items;
 
 /// The rewrite of one set, of which a policy makes a plan.
-#[derive(Debug, Drop)]
+#[derive(Drop)]
 pub struct Job {
     /// The number of the move.
     pub number: u64,

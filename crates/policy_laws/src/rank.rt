@@ -2,7 +2,7 @@
 
 /// How early an item is kept: the least distance first, and at one distance the early items before the late
 /// ones. Items that are alike in both rank by their numbers.
-#[derive(Clone, Copy, Debug, PartialEq, Eq)]
+#[derive(Clone, Copy, PartialEq, Eq)]
 pub struct Rank {
     pub distance: u8,
     pub late: bool,

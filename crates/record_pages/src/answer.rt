@@ -4,7 +4,7 @@ use crate::tier::Tier;
 use crate::value::Value;
 
 /// The answer to a get: the key's value with the tier that held it, or a miss with its cause.
-#[derive(Debug, Drop)]
+#[derive(Drop)]
 pub enum Answer {
     /// A copy of the value, and where it was found.
     Hit(Value, Tier),

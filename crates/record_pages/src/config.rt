@@ -6,7 +6,7 @@ use crate::layout::Layout;
 use thiserror::Error;
 
 /// The numbers of a cache, as they are asked for.
-#[derive(Clone, Copy, Debug, PartialEq, Eq)]
+#[derive(Clone, Copy, PartialEq, Eq)]
 pub struct Config {
     /// Lanes, 1 to 16: the independent parts of the cache.
     pub lanes: u32,

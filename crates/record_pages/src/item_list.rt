@@ -5,7 +5,7 @@ use std::alloc::{AllocError, Global};
 use std::marker::Model;
 
 /// A list of items in an order. The number of an item is its index here, counted from 0.
-#[derive(Debug, Drop)]
+#[derive(Drop)]
 pub struct ItemList<T> {
     items: Vec<T>,
 }

@@ -15,7 +15,7 @@ pub(crate) const LOG_MAGIC: u32 = 0x4b4c_4f31;
 const LASTING_LOG_MAGIC: u32 = 0x4b4c_4f47;
 
 /// A log page that was read: its header, and its records, which lie in the bytes that were read.
-#[derive(Debug, Drop)]
+#[derive(Drop)]
 pub struct LogPage<'a> {
     segment: u64,
     page: u16,

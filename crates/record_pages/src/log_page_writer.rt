@@ -15,7 +15,7 @@ use crate::records::Records;
 use std::marker::Model;
 
 /// A log page in the making: its records so far, without a header. No call takes memory.
-#[derive(Debug, Drop)]
+#[derive(Drop)]
 pub struct LogPageWriter<const PAGE: usize> {
     body: PageBody<PAGE>,
     // Where the bytes of each record begin.

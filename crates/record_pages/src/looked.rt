@@ -2,7 +2,7 @@
 use crate::value::Value;
 
 /// The answer of a tier on flash to a look-up of a key at a moment.
-#[derive(Debug, Drop)]
+#[derive(Drop)]
 pub enum Looked {
     /// The value of the first record with the key that the tier shows, which is live at the moment.
     Hit(Value),

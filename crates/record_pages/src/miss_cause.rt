@@ -1,7 +1,7 @@
 // Why a get finds nothing.
 
 /// The cause of a miss.
-#[derive(Clone, Copy, Debug, PartialEq, Eq)]
+#[derive(Clone, Copy, PartialEq, Eq)]
 pub enum MissCause {
     /// No tier has the key.
     Absent,

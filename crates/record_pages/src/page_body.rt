@@ -16,7 +16,7 @@ use crate::records::{Records, record_there, records_in};
 use std::marker::Model;
 
 // The records pushed so far, in order: they fit on a set page. On a log page there are fewer, which its writer tests.
-#[derive(Debug, Drop)]
+#[derive(Drop)]
 pub(crate) struct PageBody<const PAGE: usize> {
     bytes: [u8; PAGE],
     used: usize,

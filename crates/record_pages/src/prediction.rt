@@ -4,7 +4,7 @@ ghost use Rattle.std.specs.Prelude.{◌≡◌, ◌≤◌, ℕ, IsSome, IfSome, �
 use std::marker::Model;
 
 /// A re-reference prediction (RRIP, Jaleel et al., ISCA 2010): 0 is soon, 7 is far.
-#[derive(Clone, Copy, Debug, PartialEq, Eq)]
+#[derive(Clone, Copy, PartialEq, Eq)]
 pub struct Prediction {
     number: u8,
 }

@@ -1,7 +1,7 @@
 // What became of the pair that a put pushed out of memory.
 
 /// The fate of the pair that left memory for a new one.
-#[derive(Clone, Copy, Debug, PartialEq, Eq)]
+#[derive(Clone, Copy, PartialEq, Eq)]
 pub enum Pushed {
     /// Nothing was pushed out.
     Nobody,

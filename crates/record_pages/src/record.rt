@@ -8,7 +8,7 @@ use crate::record_ref::RecordRef;
 use crate::timed_value::TimedValue;
 
 /// An object of a page with its prediction: what a page keeps of it.
-#[derive(Debug, Drop, PartialEq, Eq)]
+#[derive(Drop, PartialEq, Eq)]
 pub struct Record {
     /// The key of the object.
     pub key: Key,

@@ -10,7 +10,7 @@ use crate::value::Value;
 use std::alloc::{AllocError, Global};
 
 /// A record with the bytes of its key and value lent by a page or an owner.
-#[derive(Clone, Copy, Debug)]
+#[derive(Clone, Copy)]
 pub struct RecordRef<'a> {
     /// The bytes of the key.
     pub key: &'a [u8],

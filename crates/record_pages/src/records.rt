@@ -19,7 +19,7 @@ use crate::value::Value;
 use std::marker::Model;
 
 /// A walk over the records of a page, in order, which lends their bytes.
-#[derive(Debug, Drop)]
+#[derive(Drop)]
 pub struct Records<'a> {
     form: RecordForm,
     left: u16,

@@ -19,7 +19,7 @@ const LASTING_SET_MAGIC: u32 = 0x4b53_4554;
 
 /// A set page that was read: its header, and its records, which lie in the bytes that were read. Pages of the two older
 /// forms are read too.
-#[derive(Debug, Drop)]
+#[derive(Drop)]
 pub struct SetPage<'a> {
     set: u32,
     write: u64,

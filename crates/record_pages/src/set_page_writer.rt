@@ -13,7 +13,7 @@ use crate::records::Records;
 use std::marker::Model;
 
 /// A set page in the making: its records so far, without a header. No call takes memory.
-#[derive(Debug, Drop)]
+#[derive(Drop)]
 pub struct SetPageWriter<const PAGE: usize> {
     body: PageBody<PAGE>,
 }

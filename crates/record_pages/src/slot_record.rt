@@ -2,7 +2,7 @@
 use crate::record_ref::RecordRef;
 
 /// A record of a page, with the slot where it lies.
-#[derive(Clone, Copy, Debug)]
+#[derive(Clone, Copy)]
 pub struct SlotRecord<'a> {
     /// Its place among the records of the page, from 0.
     pub slot: usize,

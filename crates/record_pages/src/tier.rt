@@ -1,7 +1,7 @@
 // The three places of a cache, in the order in which a get asks them.
 
 /// A tier of the cache.
-#[derive(Clone, Copy, Debug, PartialEq, Eq)]
+#[derive(Clone, Copy, PartialEq, Eq)]
 pub enum Tier {
     /// The objects kept in DRAM.
     Memory,

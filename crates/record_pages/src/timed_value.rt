@@ -16,7 +16,7 @@ pub fn is_live(expires: u64, moment: u64) -> bool
 }
 
 /// A value with the moment at which it expires. The tiers keep the two as one thing.
-#[derive(Debug, Drop, PartialEq, Eq)]
+#[derive(Drop, PartialEq, Eq)]
 pub struct TimedValue {
     /// The value.
     pub value: Value,

@@ -10,7 +10,7 @@ use std::marker::Model;
 
 /// The places of a set's page whose records were hit since the page was written: a set of places below
 /// `MAX_SET_RECORDS`, a bit of one word for each.
-#[derive(Clone, Debug, Drop)]
+#[derive(Clone, Drop)]
 pub struct HitBits {
     bits: u128,
 }

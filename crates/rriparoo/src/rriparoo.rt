@@ -11,7 +11,7 @@ use std::alloc::{AllocError, Global};
 
 /// Keeps the items with the soonest predictions, as they are after ageing (McAllister et al. 2021): of two with
 /// one prediction the old one before the fresh one, and then the one with the lower number.
-#[derive(Clone, Copy, Debug, PartialEq, Eq)]
+#[derive(Clone, Copy, PartialEq, Eq)]
 pub struct Rriparoo;
 
 impl EvictionPolicy for Rriparoo {

@@ -7,7 +7,7 @@ use record_pages::{Key, KeyFault, NEVER, Value, ValueFault};
 use std::alloc::{AllocError, Global};
 
 /// A line of a script after its first.
-#[derive(Debug, Drop)]
+#[derive(Drop)]
 pub enum Command {
     /// Puts a value, with the word that decides whether it enters flash, and the moment from which it is
     /// expired, 2^64 - 1 for never.

@@ -1,7 +1,7 @@
 // What a read of a line gave.
 
 /// What a read of a line gave.
-#[derive(Clone, Copy, Debug, PartialEq, Eq)]
+#[derive(Clone, Copy, PartialEq, Eq)]
 pub enum LineRead {
     /// A line, not too long.
     Line,

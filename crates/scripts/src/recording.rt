@@ -2,7 +2,7 @@
 use trace_file::{Certificate, History};
 
 /// A history and the certificate of its order.
-#[derive(Debug, Drop)]
+#[derive(Drop)]
 pub struct Recording {
     pub history: History,
     pub certificate: Certificate,

@@ -1,7 +1,7 @@
 // How a script ended.
 
 /// How a script ended.
-#[derive(Clone, Copy, Debug, PartialEq, Eq)]
+#[derive(Clone, Copy, PartialEq, Eq)]
 pub enum Scripted {
     /// All its lines were answered.
     Ended,

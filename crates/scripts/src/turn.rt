@@ -1,7 +1,7 @@
 use crate::scripted::Scripted;
 
 /// Whether a script goes on after a line.
-#[derive(Clone, Copy, Debug, PartialEq, Eq)]
+#[derive(Clone, Copy, PartialEq, Eq)]
 pub enum Turn {
     GoesOn,
     Ends(Scripted),

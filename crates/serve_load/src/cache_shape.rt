@@ -7,7 +7,7 @@ use load::ServeLoad;
 use record_pages::Layout;
 
 /// The numbers of the cache of a load.
-#[derive(Clone, Copy, Debug, PartialEq, Eq)]
+#[derive(Clone, Copy, PartialEq, Eq)]
 pub struct CacheShape {
     /// The numbers of each shard.
     pub layout: Layout,

@@ -12,7 +12,7 @@ use service_lane::{Counter, Counts};
 use std::alloc::{AllocError, Global};
 
 /// How long calls took, of those that were timed.
-#[derive(Clone, Copy, Debug, PartialEq, Eq)]
+#[derive(Clone, Copy, PartialEq, Eq)]
 pub struct Timed {
     /// Gets, each with the fill after a miss.
     pub gets: Quantiles,
@@ -21,7 +21,7 @@ pub struct Timed {
 }
 
 /// What is reported of a load.
-#[derive(Clone, Copy, Debug, PartialEq, Eq)]
+#[derive(Clone, Copy, PartialEq, Eq)]
 pub struct Report {
     /// Operations that all callers made.
     pub operations: u64,

@@ -4,7 +4,7 @@ use service_cache::OpenServiceFault;
 use std::io::Write;
 
 /// What failed of a load.
-#[derive(Debug, Drop)]
+#[derive(Drop)]
 pub(crate) enum ServeCause {
     /// This of the system failed.
     System(SystemFault),

@@ -6,7 +6,7 @@ ghost use Rattle.serve_load.specs.Ends.{end_of_wrong_hits, status_of, message_of
 use cache_sizes::SizeFault;
 
 /// How a load ended.
-#[derive(Clone, Copy, Debug, PartialEq, Eq)]
+#[derive(Clone, Copy, PartialEq, Eq)]
 pub enum ServeEnd {
     /// Each caller made all its operations, and no hit was wrong.
     Right,

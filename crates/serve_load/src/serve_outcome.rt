@@ -8,7 +8,7 @@ use load::{ServeLoad, SystemFault};
 use std::io::Write;
 
 /// How a load ended, and what failed, if the system did.
-#[derive(Debug, Drop)]
+#[derive(Drop)]
 pub(crate) struct ServeOutcome {
     pub(crate) end: ServeEnd,
     pub(crate) cause: Option<ServeCause>,

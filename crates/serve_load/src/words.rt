@@ -6,7 +6,7 @@ use service_cache::SeatPutFault;
 use service_lane::Filled;
 
 /// What a caller knows of a key of its own.
-#[derive(Clone, Copy, Debug, PartialEq, Eq)]
+#[derive(Clone, Copy, PartialEq, Eq)]
 pub struct Known {
     /// The number of the key.
     pub key: u32,
@@ -15,7 +15,7 @@ pub struct Known {
 }
 
 /// How a call of a caller went.
-#[derive(Clone, Copy, Debug, PartialEq, Eq)]
+#[derive(Clone, Copy, PartialEq, Eq)]
 pub(crate) enum CallEnd {
     /// It was answered, and a hit was right.
     Done,

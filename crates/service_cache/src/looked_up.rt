@@ -2,7 +2,7 @@ use record_pages::{MissCause, Tier};
 use service_lane::Lease;
 
 /// What a look-up gave that leases a key at a miss.
-#[derive(Clone, Copy, Debug, PartialEq, Eq)]
+#[derive(Clone, Copy, PartialEq, Eq)]
 pub enum LookedUp {
     /// The value is in the buffer. It came from this tier, and expires then: `NEVER` if it does not.
     Hit { tier: Tier, expires: u64 },

@@ -2,7 +2,7 @@
 use mover::CopyFate;
 
 /// What a get did with the copies that a lane has in memory of objects on flash.
-#[derive(Clone, Copy, Debug, PartialEq, Eq)]
+#[derive(Clone, Copy, PartialEq, Eq)]
 pub enum Copied {
     /// Nothing.
     Nothing,

@@ -8,7 +8,7 @@ use mover::{AnswerKind, CopyFate, MovedWhole};
 use record_pages::{MissCause, Pushed, PutFault, Tier};
 
 /// A number that a lane counts.
-#[derive(Clone, Copy, Debug, PartialEq, Eq)]
+#[derive(Clone, Copy, PartialEq, Eq)]
 pub enum Counter {
     /// Hits in memory.
     MemoryHits,

@@ -7,7 +7,7 @@ use crate::counter::Counter;
 pub const COUNTERS: usize = 36;
 
 /// How often a lane did what since it was opened, or lanes together: a number for each `Counter`, modulo 2^64.
-#[derive(Clone, Copy, Debug, PartialEq, Eq)]
+#[derive(Clone, Copy, PartialEq, Eq)]
 pub struct Counts {
     numbers: [u64; COUNTERS],
 }

@@ -5,7 +5,7 @@ ghost use Rattle.service_lane.specs.Dueness.{can_flush, wants_move, is_short, du
 use klog::LogUsage;
 
 /// What is due in a lane.
-#[derive(Clone, Copy, Debug, PartialEq, Eq)]
+#[derive(Clone, Copy, PartialEq, Eq)]
 pub enum Due {
     /// A page of the segment that is flushed is to be written.
     Flush,

@@ -1,7 +1,7 @@
 use record_pages::Pushed;
 
 /// What a fill did.
-#[derive(Clone, Copy, Debug, PartialEq, Eq)]
+#[derive(Clone, Copy, PartialEq, Eq)]
 pub enum Filled {
     /// The value was stored, and this became of the pair that was pushed out of memory.
     Stored(Pushed),

@@ -4,7 +4,7 @@
 pub const MAX_HELP_STEPS: u32 = 4;
 
 /// What a call did in help.
-#[derive(Clone, Copy, Debug, PartialEq, Eq)]
+#[derive(Clone, Copy, PartialEq, Eq)]
 pub struct Helped {
     /// How many steps it did.
     pub steps: u32,

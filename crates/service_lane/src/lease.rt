@@ -4,7 +4,7 @@
 /// the lease was given (Nishtala et al. 2013).
 ///
 /// It is a number and no more: it may be copied, kept, sent or made up. A fill by any number does what it promises.
-#[derive(Clone, Copy, Debug, PartialEq, Eq)]
+#[derive(Clone, Copy, PartialEq, Eq)]
 pub struct Lease {
     /// The writes of the slot until then.
     pub writes: u64,

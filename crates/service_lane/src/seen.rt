@@ -3,7 +3,7 @@ use crate::copied::Copied;
 use mover::AnswerKind;
 
 /// What a get saw, and what it did with the copies.
-#[derive(Clone, Copy, Debug, PartialEq, Eq)]
+#[derive(Clone, Copy, PartialEq, Eq)]
 pub(crate) struct Seen {
     pub(crate) kind: AnswerKind,
     pub(crate) copied: Copied,

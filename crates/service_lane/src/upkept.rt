@@ -6,7 +6,7 @@ use klog::Flushed;
 use mover::MovedWhole;
 
 /// What a step of upkeep did.
-#[derive(Clone, Copy, Debug, PartialEq, Eq)]
+#[derive(Clone, Copy, PartialEq, Eq)]
 pub enum Upkept {
     /// Nothing was due, and nothing changed.
     Idle,
@@ -19,7 +19,7 @@ pub enum Upkept {
 }
 
 /// A step of upkeep.
-#[derive(Clone, Copy, Debug, PartialEq, Eq)]
+#[derive(Clone, Copy, PartialEq, Eq)]
 pub struct UpkeepStep {
     /// What it did.
     pub did: Upkept,

@@ -14,7 +14,7 @@ const CALLERS: usize = 4;
 const LOOK_UPS: u32 = 20_000;
 
 /// What callers made.
-#[derive(Clone, Copy, Debug, PartialEq, Eq)]
+#[derive(Clone, Copy, PartialEq, Eq)]
 pub struct Made {
     /// Rows that were looked up.
     pub reads: u64,

@@ -2,7 +2,7 @@
 use crate::response::Response;
 
 /// What a call gave, and when it was done.
-#[derive(Debug, Drop)]
+#[derive(Drop)]
 pub struct ActAnswer {
     /// What it gave.
     pub outcome: Response,

@@ -2,7 +2,7 @@
 use crate::list_place::ListPlace;
 
 /// Why a lane's calls did not get their ends.
-#[derive(Clone, Copy, Debug, Drop)]
+#[derive(Clone, Copy, Drop)]
 pub(crate) enum LaneFault {
     /// Memory was refused.
     OutOfMemory,

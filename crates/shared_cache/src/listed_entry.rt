@@ -2,7 +2,7 @@
 use trace_file::StoredCall;
 
 /// What a pass keeps of a call that it lists, whose bytes lie in the pass's store.
-#[derive(Clone, Copy, Debug)]
+#[derive(Clone, Copy)]
 pub(crate) struct ListedEntry {
     /// The number of the lane that recorded it.
     pub(crate) lane: u32,

@@ -1,7 +1,7 @@
 // What a round of moving did.
 
 /// What a round of moving did.
-#[derive(Clone, Copy, Debug, PartialEq, Eq)]
+#[derive(Clone, Copy, PartialEq, Eq)]
 pub enum Moved {
     /// No segment is on the device, or the lane has begun 2^62 moves.
     Nothing,

@@ -2,7 +2,7 @@
 use record_pages::{Answer, Pushed};
 
 /// What a call that was made gave.
-#[derive(Debug, Drop)]
+#[derive(Drop)]
 pub enum Response {
     /// The answer to a get.
     Got(Answer),

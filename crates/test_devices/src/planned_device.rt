@@ -5,7 +5,7 @@ ghost use Rattle.page_device.specs.Device.{failures_after, WritesPage, IsKnown};
 use page_device::{DeviceFault, PageDevice};
 
 /// A call of a device.
-#[derive(Clone, Copy, Debug, PartialEq, Eq)]
+#[derive(Clone, Copy, PartialEq, Eq)]
 pub enum DeviceCall {
     /// A read of this page.
     Read(u32),

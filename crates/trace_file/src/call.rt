@@ -6,7 +6,7 @@ use crate::call_ref::CallRef;
 use record_pages::Key;
 
 /// One call of a history: who made it, when it started and ended, at which key, and what it did.
-#[derive(Debug, Drop)]
+#[derive(Drop)]
 pub struct Call {
     /// The number of the caller.
     pub caller: u16,

@@ -7,7 +7,7 @@ use std::marker::Model;
 /// An order of a history: the positions of its calls, the position of the first call first.
 ///
 /// A place is an index into the certificate, a position one into the history.
-#[derive(Debug, Drop)]
+#[derive(Drop)]
 pub struct Certificate {
     positions: Vec<u32>,
 }

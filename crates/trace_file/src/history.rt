@@ -12,7 +12,7 @@ use std::marker::Model;
 /// Recorded calls, in the order in which they were recorded.
 ///
 /// The bytes of all keys and values lie in one store.
-#[derive(Debug, Drop)]
+#[derive(Drop)]
 pub struct History {
     entries: Vec<StoredCall>,
     store: Vec<u8>,

@@ -2,7 +2,7 @@
 use crate::trace_fault::TraceFault;
 
 /// Why an item was not read from the bytes that are there.
-#[derive(Clone, Copy, Debug, PartialEq, Eq)]
+#[derive(Clone, Copy, PartialEq, Eq)]
 pub(crate) enum ItemFault {
     /// The bytes end before the item does, and no fault was met.
     Short,

@@ -10,7 +10,7 @@ use crate::kind::Kind;
 
 /// A call whose key and value lie in a store of bytes: the key at `offset`, the value after it. It is for those who
 /// keep calls in a store of their own.
-#[derive(Clone, Copy, Debug)]
+#[derive(Clone, Copy)]
 pub struct StoredCall {
     pub(crate) start: u64,
     pub(crate) end: u64,

@@ -3,7 +3,7 @@ use crate::certificate::Certificate;
 use crate::history::History;
 
 /// A history, and the order that it is claimed to have.
-#[derive(Debug, Drop)]
+#[derive(Drop)]
 pub struct Trace {
     /// The recorded calls.
     pub history: History,

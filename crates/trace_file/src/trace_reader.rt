@@ -16,7 +16,7 @@ pub(crate) const PIECE: usize = 4096;
 /// Contracts see it as the stream that was fed so far, or as the fault that was answered. Each field
 /// is judged once it is whole. Between calls it keeps, beside the finished calls and positions, at
 /// most one unfinished field or record.
-#[derive(Debug, Drop)]
+#[derive(Drop)]
 pub struct TraceReader {
     taken: TraceSoFar,
     at: u64,

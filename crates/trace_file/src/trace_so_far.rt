@@ -4,7 +4,7 @@ use crate::header::Header;
 use crate::history::History;
 
 /// What was taken of a stream of bytes: its header, and the calls and positions so far.
-#[derive(Debug, Drop)]
+#[derive(Drop)]
 pub(crate) struct TraceSoFar {
     pub(crate) header: Option<Header>,
     pub(crate) history: History,

@@ -1,7 +1,7 @@
 // The two forms of a trace.
 
 /// The two forms of a trace, told apart by their magics. Both are read; the timed one is written.
-#[derive(Clone, Copy, Debug, PartialEq, Eq)]
+#[derive(Clone, Copy, PartialEq, Eq)]
 pub enum Version {
     /// `KGTRACE2`: a put says when it expires, a hit the moment at which it was asked for.
     Timed,

@@ -9,7 +9,7 @@ use std::test::Fail;
 use trace_file::{Act, Call, History};
 
 /// What is found for a history.
-#[derive(Clone, Copy, Debug, PartialEq, Eq)]
+#[derive(Clone, Copy, PartialEq, Eq)]
 enum Want {
     Accepted,
     Interval,
@@ -102,9 +102,9 @@ fn first_of(history: &History) -> Option<(u16, u64, u64, u64)> {
 fn stamps_stay_within_their_ends(rt: HostRuntime) -> Result<(), Fail> {
     let history = at_the_ends(rt.alloc())?;
     let far = widened(rt.alloc(), &history, 5)?;
-    assert_eq!(rt; first_of(&far), Some((3, 0, u64::MAX, NEVER)));
+    assert!(rt; first_of(&far) == Some((3, 0, u64::MAX, NEVER)));
     let near = widened(rt.alloc(), &history, 3)?;
     let wanted = Some((3, 1, u64::MAX - 1, u64::MAX - 2));
-    assert_eq!(rt; first_of(&near), wanted);
+    assert!(rt; first_of(&near) == wanted);
     Ok(())
 }

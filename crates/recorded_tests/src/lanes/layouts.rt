@@ -185,7 +185,7 @@ static ROWS: [Row; 7] = [
 
 #[test]
 fn lanes_are_laid_out_by_point_and_lane(rt: HostRuntime) -> Result<(), Fail> {
-    assert_eq!(rt; first_wrong(rt.alloc(), &ROWS)?, None);
+    assert!(rt; first_wrong(rt.alloc(), &ROWS)? == None);
     Ok(())
 }
 

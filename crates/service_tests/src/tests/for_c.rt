@@ -153,7 +153,7 @@ const PUSHED_COPIES: usize = 33;
 #[test]
 fn each_status_comes_and_is_counted(rt: HostRuntime) -> Result<(), Fail> {
     let (stray, counts) = after(rt.alloc(), &SHAPE, &EACH_STATUS)?;
-    assert_eq!(rt; stray, None);
+    assert!(rt; stray == None);
     assert!(rt;
         are(
             &counts.numbers,
@@ -194,7 +194,7 @@ static EACH_TIER: [Step; 12] = [
 #[test]
 fn what_leaves_memory_is_hit_in_the_log(rt: HostRuntime) -> Result<(), Fail> {
     let (stray, counts) = after(rt.alloc(), &SHAPE, &EACH_TIER)?;
-    assert_eq!(rt; stray, None);
+    assert!(rt; stray == None);
     assert!(rt;
         are(
             &counts.numbers,
@@ -222,18 +222,18 @@ fn a_lane_opens_over_enough_pages_and_not_with_a_number_out_of_its_range(
     rt: HostRuntime,
 ) -> Result<(), Fail> {
     let alloc = rt.alloc();
-    assert_eq!(rt; opened(alloc, &SHAPE, 3)?, Status::Done);
-    assert_eq!(rt; opened(alloc, &SHAPE, 2)?, Status::WrongOptions);
+    assert!(rt; opened(alloc, &SHAPE, 3)? == Status::Done);
+    assert!(rt; opened(alloc, &SHAPE, 2)? == Status::WrongOptions);
     let no_slots = LaneShape {
         lease_slots: 0,
         ..SHAPE
     };
-    assert_eq!(rt; opened(alloc, &no_slots, 3)?, Status::WrongOptions);
+    assert!(rt; opened(alloc, &no_slots, 3)? == Status::WrongOptions);
     let wide = LaneShape {
         admit: 65537,
         ..SHAPE
     };
-    assert_eq!(rt; opened(alloc, &wide, 3)?, Status::WrongOptions);
+    assert!(rt; opened(alloc, &wide, 3)? == Status::WrongOptions);
     Ok(())
 }
 
@@ -270,7 +270,7 @@ static COMES_BACK: [Step; 20] = [
 #[test]
 fn what_is_hit_on_flash_comes_back_until_it_is_written(rt: HostRuntime) -> Result<(), Fail> {
     let (stray, counters) = after(rt.alloc(), &BRINGS_BACK, &COMES_BACK)?;
-    assert_eq!(rt; stray, None);
+    assert!(rt; stray == None);
     let numbers = &counters.numbers;
     assert!(rt;
         are(
@@ -344,7 +344,7 @@ static LOST_BELOW: [Step; 41] = [
 #[test]
 fn a_copy_that_flash_has_lost_enters_the_log(rt: HostRuntime) -> Result<(), Fail> {
     let (stray, counters) = after(rt.alloc(), &COPIES_EACH, &LOST_BELOW)?;
-    assert_eq!(rt; stray, None);
+    assert!(rt; stray == None);
     let numbers = &counters.numbers;
     assert!(rt;
         are(
@@ -385,7 +385,7 @@ fn a_copy_goes_where_flash_has_its_object_or_its_key_was_written(
     rt: HostRuntime,
 ) -> Result<(), Fail> {
     let (stray, counters) = after(rt.alloc(), &COPIES_EACH, &WRITTEN_SINCE)?;
-    assert_eq!(rt; stray, None);
+    assert!(rt; stray == None);
     let numbers = &counters.numbers;
     assert!(rt;
         are(
@@ -475,8 +475,8 @@ fn fault_of(shape: &LaneShape) -> u32 {
 #[test]
 fn of_several_numbers_out_of_their_ranges_the_first_is_the_fault(rt: HostRuntime) {
     for count in 0..10u32 {
-        assert_eq!(rt; fault_of(&mixed(count, &SHAPE, &LOW)), count + 1);
-        assert_eq!(rt; fault_of(&mixed(count, &GREATEST, &HIGH)), count + 1);
+        assert!(rt; fault_of(&mixed(count, &SHAPE, &LOW)) == count + 1);
+        assert!(rt; fault_of(&mixed(count, &GREATEST, &HIGH)) == count + 1);
     }
     assert!(rt; fault_of(&SHAPE) == 0 && fault_of(&GREATEST) == 0);
 }
@@ -495,12 +495,12 @@ fn sizes_become_a_shape_and_a_shape_sizes(rt: HostRuntime) -> Result<(), Fail> {
     assert!(rt; shape.threshold == 1 && shape.admit == 65536);
     let sizes = Sizes::of(&shape, 100);
     assert!(rt; sizes.file_bytes <= 1 << 30 && sizes.file_bytes > 1 << 29);
-    assert_eq!(rt; sizes.lane_pages * 16 * 4096, sizes.file_bytes);
+    assert!(rt; sizes.lane_pages * 16 * 4096 == sizes.file_bytes);
     let none = WantedSizes {
         threads: 0,
         ..wanted
     };
-    assert_eq!(rt; none.write_shape(&mut shape), Err(SizeFault::NoThreads));
+    assert!(rt; none.write_shape(&mut shape) == Err(SizeFault::NoThreads));
     Ok(())
 }
 

@@ -17,12 +17,12 @@ static SEVEN: Summary = Summary {
 #[test]
 fn a_caller_that_stopped_is_told(rt: HostRuntime) -> Result<(), Fail> {
     let end = RunEnd::of_verdict(SEVEN.verdict, SEVEN.stopped);
-    assert_eq!(rt; end, RunEnd::Stopped);
-    assert_eq!(rt; end.status(), 3);
-    assert_eq!(rt; end.message(), None);
-    assert_eq!(rt;
-        SEVEN.text(rt.alloc(), Form::Lines)?.as_str(),
-        "calls 7\nhits 2\nstopped 1\naccepted 7 calls\n"
+    assert!(rt; end == RunEnd::Stopped);
+    assert!(rt; end.status() == 3);
+    assert!(rt; end.message() == None);
+    assert!(rt;
+        SEVEN.text(rt.alloc(), Form::Lines)?.as_str()
+            == "calls 7\nhits 2\nstopped 1\naccepted 7 calls\n"
     );
     Ok(())
 }

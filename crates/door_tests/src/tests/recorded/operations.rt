@@ -182,11 +182,11 @@ fn operations_go_on_behind_the_words_that_were_drawn(rt: HostRuntime) -> Result<
     let second = next_operation(rt.alloc(), &mut generator, &load, 54, 1)?;
     assert!(rt; is(&first, &ROWS[3].first, 0, 7));
     assert!(rt; is(&second, &Does::Get(b"k955"), 1, 0));
-    assert_eq!(rt; generator.next_word(), 0xcbed_606e);
+    assert!(rt; generator.next_word() == 0xcbed_606e);
     let mut passed = Lcg64Xsh32::new(42, 54);
     pass_over(rt.alloc(), &mut passed, &load, 54, 0);
     pass_over(rt.alloc(), &mut passed, &load, 54, 1);
-    assert_eq!(rt; passed.next_word(), 0xcbed_606e);
+    assert!(rt; passed.next_word() == 0xcbed_606e);
     Ok(())
 }
 
@@ -211,12 +211,9 @@ fn value_of(alloc: Global, layout: Layout, value_bytes: u32) -> Result<Vec<u8>, 
 fn values_repeat_the_caller_and_the_number(rt: HostRuntime) -> Result<(), Fail> {
     let layout = small_cache()?;
     let value = value_of(rt.alloc(), layout, 13)?;
-    assert_eq!(rt;
-        value.as_slice(),
-        [1, 2, 3, 4, 5, 6, 1, 2, 3, 4, 5, 6, 1].as_slice()
-    );
+    assert!(rt; value.as_slice() == [1, 2, 3, 4, 5, 6, 1, 2, 3, 4, 5, 6, 1].as_slice());
     let longest = value_of(rt.alloc(), layout, 2048)?;
-    assert_eq!(rt; longest.len(), 2048);
-    assert_eq!(rt; longest[2047], 2);
+    assert!(rt; longest.len() == 2048);
+    assert!(rt; longest[2047] == 2);
     Ok(())
 }

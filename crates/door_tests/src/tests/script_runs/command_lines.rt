@@ -531,19 +531,18 @@ fn a_bad_script_is_told_what_its_lines_may_be(rt: HostRuntime) {
 fn a_system_without_random_numbers_is_told(rt: HostRuntime) {
     let mut told: Vec<u8> = Vec::new(rt.alloc());
     let ended = ProgramEnd::without_random(io::Error::from(ErrorKind::PermissionDenied));
-    assert_eq!(rt; ended.ending, Ending::FileFault);
+    assert!(rt; ended.ending == Ending::FileFault);
     ended.tell(&mut told);
-    assert_eq!(rt;
-        told.as_slice(),
-        b"file fault\nno random numbers: permission denied\n".as_slice()
+    assert!(rt;
+        told.as_slice() == b"file fault\nno random numbers: permission denied\n".as_slice()
     );
 }
 
 #[test]
 fn each_ending_has_its_status(rt: HostRuntime) {
-    assert_eq!(rt; Ending::Done.status(), 0);
-    assert_eq!(rt; Ending::BadWords.status(), 2);
-    assert_eq!(rt; Ending::BadLine.status(), 2);
-    assert_eq!(rt; Ending::BadConfig.status(), 2);
-    assert_eq!(rt; Ending::FileFault.status(), 3);
+    assert!(rt; Ending::Done.status() == 0);
+    assert!(rt; Ending::BadWords.status() == 2);
+    assert!(rt; Ending::BadLine.status() == 2);
+    assert!(rt; Ending::BadConfig.status() == 2);
+    assert!(rt; Ending::FileFault.status() == 3);
 }

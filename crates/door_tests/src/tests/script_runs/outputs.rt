@@ -117,8 +117,8 @@ fn an_input_that_fails_ends_the_program_with_a_read_fault(rt: HostRuntime) -> Re
         &mut reader,
         &mut writer,
     );
-    assert_eq!(rt; ended, Ending::ReadFault);
-    assert_eq!(rt; writer.get_ref().taken, 6);
+    assert!(rt; ended == Ending::ReadFault);
+    assert!(rt; writer.get_ref().taken == 6);
     Ok(())
 }
 
@@ -128,10 +128,10 @@ fn a_help_text_is_written_or_a_file_fault(rt: HostRuntime) {
         refuses: Refuses::Nothing,
         taken: 0,
     };
-    assert_eq!(rt; tell_help(&mut output, "how"), Ending::Done);
-    assert_eq!(rt; output.taken, 3);
+    assert!(rt; tell_help(&mut output, "how") == Ending::Done);
+    assert!(rt; output.taken == 3);
     output.refuses = Refuses::Writes;
-    assert_eq!(rt; tell_help(&mut output, "how"), Ending::FileFault);
+    assert!(rt; tell_help(&mut output, "how") == Ending::FileFault);
     output.refuses = Refuses::Flushes;
-    assert_eq!(rt; tell_help(&mut output, "how"), Ending::FileFault);
+    assert!(rt; tell_help(&mut output, "how") == Ending::FileFault);
 }

@@ -112,7 +112,7 @@ static ROWS: [Row; 18] = [
 fn a_word_draws_the_rank_in_whose_weight_it_leads(rt: HostRuntime) -> Result<(), Fail> {
     for row in &ROWS {
         let ranks = Ranks::new(rt.alloc(), row.ranks)?;
-        assert_eq!(rt; ranks.rank(row.word), row.rank);
+        assert!(rt; ranks.rank(row.word) == row.rank);
     }
     Ok(())
 }
@@ -162,15 +162,15 @@ fn numbers_left(alloc: Global, ranks: u32, seed: u32) -> Result<usize, AllocErro
 #[test]
 fn each_number_has_a_rank(rt: HostRuntime) -> Result<(), Fail> {
     for ranks in [1, 2, 3, 5, 10, 997, 1000, 4096] {
-        assert_eq!(rt; numbers_left(rt.alloc(), ranks, 0)?, 0);
-        assert_eq!(rt; numbers_left(rt.alloc(), ranks, 4294967295)?, 0);
+        assert!(rt; numbers_left(rt.alloc(), ranks, 0)? == 0);
+        assert!(rt; numbers_left(rt.alloc(), ranks, 4294967295)? == 0);
     }
     Ok(())
 }
 
 #[test]
 fn the_first_rank_has_the_number_of_the_seed(rt: HostRuntime) {
-    assert_eq!(rt; scattered(1000, 7, 0), 7);
-    assert_eq!(rt; scattered(1000, 4294967295, 0), 295);
-    assert_eq!(rt; scattered(1000, 7, 1), 298);
+    assert!(rt; scattered(1000, 7, 0) == 7);
+    assert!(rt; scattered(1000, 4294967295, 0) == 295);
+    assert!(rt; scattered(1000, 7, 1) == 298);
 }

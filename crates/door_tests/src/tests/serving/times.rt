@@ -48,9 +48,9 @@ fn merged_longest(histogram: &mut Histogram, other: &mut Histogram) -> (u64, u64
 #[test]
 fn a_histogram_tells_its_times(rt: HostRuntime) -> Result<(), Fail> {
     let alloc = rt.alloc();
-    assert_eq!(rt; half_of_two(&mut Histogram::new(alloc)?), 1);
-    assert_eq!(rt; more_than_half_of_two(&mut Histogram::new(alloc)?), 64);
-    assert_eq!(rt; all_of_one(&mut Histogram::new(alloc)?), 100);
+    assert!(rt; half_of_two(&mut Histogram::new(alloc)?) == 1);
+    assert!(rt; more_than_half_of_two(&mut Histogram::new(alloc)?) == 64);
+    assert!(rt; all_of_one(&mut Histogram::new(alloc)?) == 100);
     let merged = merged_longest(&mut Histogram::new(alloc)?, &mut Histogram::new(alloc)?);
     assert!(rt; merged.0 == 2 && merged.1 == 9);
     Ok(())
@@ -59,8 +59,8 @@ fn a_histogram_tells_its_times(rt: HostRuntime) -> Result<(), Fail> {
 #[test]
 fn a_longer_time_than_the_longest_counts_as_that(rt: HostRuntime) -> Result<(), Fail> {
     let mut histogram = Histogram::new(rt.alloc())?;
-    assert_eq!(rt; histogram.quantiles().most, 0);
+    assert!(rt; histogram.quantiles().most == 0);
     histogram.add(18446744073709551615);
-    assert_eq!(rt; histogram.quantiles().p50, LONGEST);
+    assert!(rt; histogram.quantiles().p50 == LONGEST);
     Ok(())
 }

@@ -116,5 +116,5 @@ fn streams_that_fail_are_told(rt: HostRuntime) {
     assert!(rt; is_unread_text_told(rt.alloc()));
     assert!(rt; is_unwritten_verdict_told(rt.alloc()));
     assert!(rt; is_unread_trace_bad(rt.alloc()));
-    assert_eq!(rt; status_unflushed(&rt), Ok(3));
+    assert!(rt; status_unflushed(&rt) == Ok(3));
 }

@@ -209,7 +209,7 @@ fn told_hit(alloc: Global, history: &History) -> Result<Option<u32>, Fail> {
 #[test]
 fn the_hit_that_ends_first_is_told(rt: HostRuntime) -> Result<(), Fail> {
     let history = history_of(rt.alloc(), HISTORIES[1].rows)?;
-    assert_eq!(rt; told_hit(rt.alloc(), &history)?, Some(3));
+    assert!(rt; told_hit(rt.alloc(), &history)? == Some(3));
     Ok(())
 }
 

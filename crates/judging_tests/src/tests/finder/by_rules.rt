@@ -95,7 +95,7 @@ fn history_by_keys(alloc: Global, tables: &[&[Row]]) -> Result<History, Fail> {
 fn each_rule_finds_what_no_other_does(rt: HostRuntime) -> Result<(), Fail> {
     for rows in BY_RULE.iter() {
         let history = history_of(rt.alloc(), *rows)?;
-        assert_eq!(rt; found(rt.alloc(), &history)?, Some(Want::Accepted));
+        assert!(rt; found(rt.alloc(), &history)? == Some(Want::Accepted));
     }
     Ok(())
 }
@@ -109,11 +109,11 @@ fn found_by_keys(alloc: Global, tables: &[&[Row]]) -> Result<Option<Want>, Fail>
 #[test]
 fn keys_are_decided_by_rules_of_their_own(rt: HostRuntime) -> Result<(), Fail> {
     let two = found_by_keys(rt.alloc(), &[BY_RULE[0], BY_RULE[1]])?;
-    assert_eq!(rt; two, Some(Want::Accepted));
+    assert!(rt; two == Some(Want::Accepted));
     let later_first = found_by_keys(rt.alloc(), &[BY_RULE[4], BY_RULE[2]])?;
-    assert_eq!(rt; later_first, Some(Want::Accepted));
+    assert!(rt; later_first == Some(Want::Accepted));
     let all = found_by_keys(rt.alloc(), &BY_RULE)?;
-    assert_eq!(rt; all, Some(Want::Accepted));
+    assert!(rt; all == Some(Want::Accepted));
     Ok(())
 }
 
@@ -167,7 +167,7 @@ fn long_history_by_keys(alloc: Global) -> Result<History, Fail> {
 #[test]
 fn a_hundred_thousand_calls_of_ten_keys_are_accepted(rt: HostRuntime) -> Result<(), Fail> {
     let history = long_history_by_keys(rt.alloc())?;
-    assert_eq!(rt; history.len(), 100050);
-    assert_eq!(rt; found(rt.alloc(), &history)?, Some(Want::Accepted));
+    assert!(rt; history.len() == 100050);
+    assert!(rt; found(rt.alloc(), &history)? == Some(Want::Accepted));
     Ok(())
 }

@@ -18,7 +18,7 @@ pub(super) enum Did {
 }
 
 /// What is to be found.
-#[derive(Clone, Copy, Debug, PartialEq, Eq)]
+#[derive(Clone, Copy, PartialEq, Eq)]
 pub(super) enum Want {
     Accepted,
     Interval,
@@ -95,7 +95,7 @@ fn find_each(alloc: Global, table: &[(&[Row], Want)]) -> Result<(), Fail> {
         let history = history_of(alloc, *rows)?;
         let is = found(alloc, &history)?;
         if is != Some(*want) {
-            return Err(Fail::new(format_args!("row {row}: {is:?}")));
+            return Err(Fail::new(format_args!("row {row}")));
         }
     }
     Ok(())
@@ -559,6 +559,6 @@ fn long_history(alloc: Global) -> Result<History, Fail> {
 #[test]
 fn a_history_of_two_million_calls_is_accepted(rt: HostRuntime) -> Result<(), Fail> {
     let history = long_history(rt.alloc())?;
-    assert_eq!(rt; found(rt.alloc(), &history)?, Some(Want::Accepted));
+    assert!(rt; found(rt.alloc(), &history)? == Some(Want::Accepted));
     Ok(())
 }

@@ -169,9 +169,9 @@ fn a_hit_that_would_cross_two_writes_in_any_case_is_found(rt: HostRuntime) -> Re
     for (row, (rows, want, unread)) in HISTORIES.iter().enumerate() {
         let history = history_of(rt.alloc(), *rows)?;
         let is = found(rt.alloc(), &history)?;
-        assert!(rt; is == Some(*want), "row {row}: {is:?}");
+        assert!(rt; is == Some(*want), "row {row}");
         match (told(rt.alloc(), &history)?, *unread) {
-            (Some(hit), Some(wanted)) => assert!(rt; is_wanted(&hit, wanted), "row {row}: {hit:?}"),
+            (Some(hit), Some(wanted)) => assert!(rt; is_wanted(&hit, wanted), "row {row}"),
             (None, None) => {}
             (_, _) => return Err(Fail::new(format_args!("row {row}"))),
         }

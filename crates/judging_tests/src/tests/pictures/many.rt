@@ -59,7 +59,7 @@ fn the_nearest_of_a_thousand_are_shown(rt: HostRuntime) -> Result<(), Fail> {
         .iter()
         .filter(|byte| **byte == b'\n')
         .count();
-    assert_eq!(rt; lines, 25);
+    assert!(rt; lines == 25);
     assert!(rt; text.as_str().contains("\n  489  "));
     assert!(rt; text.as_str().contains("\n* 500  "));
     assert!(rt; text.as_str().contains("\n  511  "));

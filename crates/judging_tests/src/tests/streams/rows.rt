@@ -8,7 +8,7 @@ use std::hash::{BuildHasherDefault, FoldHasher};
 use std::test::Fail;
 
 /// What comes of judging a text.
-#[derive(Clone, Copy, Debug, PartialEq, Eq)]
+#[derive(Clone, Copy, PartialEq, Eq)]
 pub(super) enum End {
     Accepted,
     Rejected,

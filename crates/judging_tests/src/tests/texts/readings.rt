@@ -28,7 +28,7 @@ static BAD: [(&[u8], LineCause); 12] = [
 
 /// How many calls are read of a text, on which line the last of them stands, how many callers there are, and how many lines were
 /// passed over; or the first bad line.
-#[derive(Clone, Copy, Debug, PartialEq, Eq)]
+#[derive(Clone, Copy, PartialEq, Eq)]
 enum Came {
     Read(usize, u32, usize, u64),
     Bad(BadLine),

@@ -31,7 +31,7 @@ pub enum Step {
 }
 
 /// What is reported of a lane after its calls.
-#[derive(Clone, Copy, Debug, PartialEq, Eq)]
+#[derive(Clone, Copy, PartialEq, Eq)]
 pub struct Told {
     /// The number of the first call that did not give what is written beside it, or was not recorded as it must.
     pub strayed: Option<usize>,

@@ -9,7 +9,7 @@ use record_pages::{Key, MissCause, Tier, Value};
 pub const KEYS: usize = 64;
 
 /// How its calls went.
-#[derive(Clone, Copy, Debug, PartialEq, Eq)]
+#[derive(Clone, Copy, PartialEq, Eq)]
 pub struct Tally {
     /// Hits of the latest value, while it was live, by tier.
     pub memory: u64,

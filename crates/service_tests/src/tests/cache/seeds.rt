@@ -52,9 +52,9 @@ fn two_caches_admit_by_words_of_their_own(rt: HostRuntime) -> Result<(), Fail> {
     let (first, second) = (RandomSeed::draw(&rt)?, RandomSeed::draw(&rt)?);
     let one = try_one(&rt, rt.alloc(), HALF, first, Trial::TellsDeclined)?;
     let two = try_one(&rt, rt.alloc(), HALF, second, Trial::TellsDeclined)?;
-    assert_ne!(rt; one, two);
-    assert_ne!(rt; one, Outcome::Told(0));
-    assert_ne!(rt; two, Outcome::Told(0));
+    assert!(rt; one != two);
+    assert!(rt; one != Outcome::Told(0));
+    assert!(rt; two != Outcome::Told(0));
     Ok(())
 }
 
@@ -127,7 +127,7 @@ fn two_caches_place_keys_differently(rt: HostRuntime) -> Result<(), Fail> {
     let (first, second) = (RandomSeed::draw(&rt)?, RandomSeed::draw(&rt)?);
     let one = try_one(&rt, rt.alloc(), FOUR, first, Trial::TellsLanes)?;
     let two = try_one(&rt, rt.alloc(), FOUR, second, Trial::TellsLanes)?;
-    assert_ne!(rt; one, two);
+    assert!(rt; one != two);
     Ok(())
 }
 
@@ -156,10 +156,10 @@ pub fn entered<D: PageDevice<256>, L: KeyLanes, J: BookName, R: Wait>(
 fn a_lane_admits_and_moves_as_it_was_asked_to(rt: HostRuntime) -> Result<(), Fail> {
     let seed = RandomSeed::draw(&rt)?;
     let all = try_one(&rt, rt.alloc(), ALONE, seed, Trial::TellsEntered)?;
-    assert_eq!(rt; all, Outcome::Told(3));
+    assert!(rt; all == Outcome::Told(3));
     let none = try_one(&rt, rt.alloc(), NONE_ADMITTED, seed, Trial::TellsEntered)?;
-    assert_eq!(rt; none, Outcome::Told(0));
+    assert!(rt; none == Outcome::Told(0));
     let strict = try_one(&rt, rt.alloc(), STRICT, seed, Trial::TellsEntered)?;
-    assert_eq!(rt; strict, Outcome::Told(2));
+    assert!(rt; strict == Outcome::Told(2));
     Ok(())
 }

@@ -23,7 +23,7 @@ pub struct Numbers {
 }
 
 /// What is tried of a cache that was opened.
-#[derive(Clone, Copy, Debug, PartialEq, Eq)]
+#[derive(Clone, Copy, PartialEq, Eq)]
 pub enum Trial {
     /// Nothing more.
     Opens,
@@ -60,7 +60,7 @@ pub enum Trial {
 }
 
 /// What became of a trial: why the cache was not opened, or whether the trial held, or what it told.
-#[derive(Clone, Copy, Debug, PartialEq, Eq)]
+#[derive(Clone, Copy, PartialEq, Eq)]
 pub enum Outcome {
     Refused(OpenServiceFault),
     Held(bool),

@@ -168,7 +168,7 @@ static STORES: [Call; 18] = [
 
 #[test]
 fn stores_depend_on_the_live_item(rt: HostRuntime) -> Result<(), Fail> {
-    assert_eq!(rt; stray(rt.alloc(), &STORES)?, None);
+    assert!(rt; stray(rt.alloc(), &STORES)? == None);
     Ok(())
 }
 
@@ -249,7 +249,7 @@ static ENDS: [Call; 18] = [
 
 #[test]
 fn items_end_by_expiry_by_a_flush_and_by_a_delete(rt: HostRuntime) -> Result<(), Fail> {
-    assert_eq!(rt; stray(rt.alloc(), &ENDS)?, None);
+    assert!(rt; stray(rt.alloc(), &ENDS)? == None);
     Ok(())
 }
 
@@ -327,7 +327,7 @@ static NUMBERS: [Call; 13] = [
 
 #[test]
 fn numbers_go_up_and_down(rt: HostRuntime) -> Result<(), Fail> {
-    assert_eq!(rt; stray(rt.alloc(), &NUMBERS)?, None);
+    assert!(rt; stray(rt.alloc(), &NUMBERS)? == None);
     Ok(())
 }
 
@@ -365,7 +365,7 @@ fn a_set_that_is_refused_leaves_no_older_item(rt: HostRuntime) -> Result<(), Fai
             Step::Set(Kept(0, 4, Some(9), &LARGEST), Err(PutFault::TooLarge)),
         ),
     ];
-    assert_eq!(rt; stray(rt.alloc(), &calls)?, None);
+    assert!(rt; stray(rt.alloc(), &calls)? == None);
     Ok(())
 }
 
@@ -386,10 +386,10 @@ static CELL: [u8; 19] = [
 fn a_cell_has_its_bytes(rt: HostRuntime) -> Result<(), Fail> {
     let mut cell = CellBuffer::empty();
     cell.write(&MARKED, b"o", b"k");
-    assert_eq!(rt; cell.bytes(), CELL.as_slice());
+    assert!(rt; cell.bytes() == CELL.as_slice());
     let item = CacheItem::decode(&CELL).ok_or("no cell")?;
-    assert_eq!(rt; item.head, MARKED);
-    assert_eq!(rt; item.bytes, b"ok".as_slice());
+    assert!(rt; item.head == MARKED);
+    assert!(rt; item.bytes == b"ok".as_slice());
     assert!(rt; CacheItem::decode(&CELL[..16]).is_none());
     assert!(rt; CacheItem::decode(&[31, 0, 0, 0, 0, 0, 0, 0, 3, 0, 0, 1, 2, 0, 1, 0, 0]).is_none());
     assert!(rt; CacheItem::decode(&[4, 0, 0, 0, 0, 0, 0, 0, 3, 0, 0, 0, 0, b'x']).is_none());
