@@ -7,7 +7,7 @@ use std::fmt;
 ///
 /// Intervals are tested first, over all calls, then the count, then the places in order, with the four
 /// tests at each place in the order of the variants.
-#[derive(Clone, Copy, Debug, PartialEq, Eq)]
+#[derive(Clone, Copy, PartialEq, Eq)]
 pub enum Fault {
     /// The call at this position ends before it starts.
     BadInterval { position: usize },

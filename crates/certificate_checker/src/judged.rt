@@ -5,7 +5,7 @@ ghost use Rattle.certificate_checker.specs.Judgements.{kind_of};
 use crate::verdict::Verdict;
 
 /// What the bytes of a reader were judged to be.
-#[derive(Clone, Copy, Debug, PartialEq, Eq)]
+#[derive(Clone, Copy, PartialEq, Eq)]
 pub enum Judged {
     /// A trace whose certificate spells an agreeing, lawful order of its history.
     Accepted,

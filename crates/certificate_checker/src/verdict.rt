@@ -2,7 +2,7 @@
 use crate::fault::Fault;
 
 /// The verdict on a history and its certificate.
-#[derive(Clone, Copy, Debug, PartialEq, Eq)]
+#[derive(Clone, Copy, PartialEq, Eq)]
 pub enum Verdict {
     /// The certificate spells an agreeing, lawful order of the history.
     Accepted,

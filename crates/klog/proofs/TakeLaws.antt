@@ -1,25 +1,53 @@
 -- What is taken of a set's live records.
-use Rattle.std.proofs.Common.{◌≡◌, ℕ, zero, suc, ◌+◌, ◌<◌, ◌≤◌, ◌⊎◌, inl, inr, true, List, [], ◌∷◌, ◌++◌, length, take, drop, map, Option, Some, None, All, Contains, slice_get, refl, sym, ap, subst, ◌∙◌, arith}
-use Rattle.std.specs.Prelude.{IsSome, IsSomeAnd, IsTrue, Result, Ok}
+use Rattle.std.proofs.Common.{◌≡◌, ℕ, zero, suc, ◌+◌, ◌<◌, ◌≤◌, ◌⊎◌, inl, inr, true, List, [], ◌∷◌, ◌++◌, length, take, drop, map, Option, Some, None, Bool, false, All, Contains, slice_get, refl, sym, ap, subst, ◌∙◌, arith}
+use Rattle.std.specs.Prelude.{IsSome, IsSomeAnd, IsTrue, IfOk, Result, Ok, Err}
 use Rattle.std.specs.declared.alloc.AllocError.{AllocError}
 use Rattle.std.proofs.lemmas.Bool.{false≢true}
 use Rattle.std.proofs.lemmas.List.{take_more, take_all, length_push}
 use Rattle.std.proofs.lemmas.List.Elements.{All-filter, All-weaker, All-head, All-tail, All-contains, All-contains_itself, All-take}
 use Rattle.std.proofs.lemmas.Option.{slice_get_within, get_or_from_slice_get, same_Some}
 use Rattle.page_device.specs.Device.{faults_after}
+use Rattle.page_device.specs.Lending.{ReadsOrStops}
 use Rattle.page_device.specs.Frames.{pages_from}
 use Rattle.record_pages.specs.Recs.{Rec}
 use Rattle.klog_index.specs.declared.entry.Entry.{Entry}
 use Rattle.klog_index.specs.Entries.{is_of, of_set}
+use Rattle.klog.specs.declared.gathered.Gathered.{Gathered}
 use Rattle.klog.specs.declared.taken_record.TakenRecord.{TakenRecord}
 use Rattle.klog.specs.Log.{LogState}
 use Rattle.klog.specs.Shown.{shown_on, live_on, CanStandFor, IsLive, IsLiveOn, IsSpelledOn}
 use Rattle.klog.specs.Known.{is_buffered, AreBuffered, ShowsIfHad}
 use Rattle.klog.specs.Moves.{most_taken, taken_entries, taken_as, taken_of, AreCopies}
-use Rattle.klog.specs.Take.{Copies, is_missing}
+use Rattle.klog.specs.Take.{Copies, is_missing, is_lost_page}
+use Rattle.klog.proofs.CallLaws.{stops_on}
 use Rattle.klog.proofs.LiveLaws.{live_by, live_by-kept}
 use Rattle.klog.proofs.KnownLaws.{shows_live, shows_weaker}
 use Rattle.klog.proofs.LookLaws.{got, got_early, kept_of, dropped_at, dropped_past}
+
+-- ---- what is left of the device where a copy was wanted, after others that were had
+module _ {D : Type 0} {pages : D → ℕ} {honest : D → Bool} {failures : D → ℕ} {held : D → ℕ → Option (List ℕ)} {old mid new : D} where
+  -- the copy was had
+  pub reads_had : (o : Option TakenRecord) (t : TakenRecord) → o ≡ Some t → ReadsOrStops pages honest failures held mid (is_missing (Ok o)) new
+      → ReadsOrStops pages honest failures held old false mid → ReadsOrStops pages honest failures held old false new
+  reads_had o t is then before = stops_on (subst (λ (o : Option TakenRecord). ReadsOrStops pages honest failures held mid (is_missing (Ok o)) new) is then) before
+
+  -- its page was lost
+  pub reads_lost : (o : Option TakenRecord) → o ≡ None → ReadsOrStops pages honest failures held mid (is_missing (Ok o)) new
+      → ReadsOrStops pages honest failures held old false mid → ReadsOrStops pages honest failures held old true new
+  reads_lost o is then before = stops_on (subst (λ (o : Option TakenRecord). ReadsOrStops pages honest failures held mid (is_missing (Ok o)) new) is then) before
+
+-- and where memory was refused
+pub reads_wanted : {D : Type 0} {pages : D → ℕ} {honest : D → Bool} {failures : D → ℕ} {held : D → ℕ → Option (List ℕ)} {old new : D} (r : Result Gathered AllocError) (e : AllocError) → r ≡ Err e → ReadsOrStops pages honest failures held old false new
+    → ReadsOrStops pages honest failures held old (is_lost_page r) new
+reads_wanted {pages = pages} {honest = honest} {failures = failures} {held = held} {old = old} {new = new} r e is all = subst (λ (r : Result Gathered AllocError). ReadsOrStops pages honest failures held old (is_lost_page r) new) (sym is) all
+
+-- no call of the device failed if memory was refused
+pub faults_wanted : (r : Result Gathered AllocError) (e : AllocError) {before after : ℕ} → r ≡ Err e → after ≡ before → after ≡ faults_after before (is_lost_page r)
+faults_wanted r e {before = before} {after = after} is same = subst (λ (r : Result Gathered AllocError). after ≡ faults_after before (is_lost_page r)) (sym is) same
+
+-- what holds of all that is gathered holds if memory was refused
+pub wanted_if_ok : (P : Gathered → Type 0) (r : Result Gathered AllocError) (e : AllocError) → r ≡ Err e → IfOk r P
+wanted_if_ok P r e is = subst (λ (r : Result Gathered AllocError). IfOk r P) (sym is) tt
 
 -- ---- a turn: the entry that stands so far after the newest of the set
 abbrev pub AtTurn : LogState → ℕ → ℕ → Entry → Type 0

@@ -7,7 +7,7 @@ use crossbeam_channel::Sender;
 use std::io::{IsTerminal, Write};
 use std::sync::Wait;
 use std::sync::atomic::{AtomicU64, Ordering};
-use std::thread::Threads;
+use std::thread::{Scope, Threads};
 use std::time::{Clock, Instant};
 use std::{io, thread};
 
@@ -80,35 +80,66 @@ pub fn run_crew<C: Crew<R>, R: Threads + Wait + Sync + Clock, E: Write + IsTermi
             requires callers { All (C.is_of crew.now) callers.items }
             requires lanes { 0 < C.lanes crew.now }
         {
-            for worker in 0..workers {
-                let _ = scope.spawn(
-                    move ||
-                        requires can { C.can_run crew.now }
-                        requires lanes { 0 < C.lanes crew.now }
-                    { work(rt, crew, worker, running) },
-                );
-            }
-            while let Some(caller) = callers.pop() {
-                let started = scope.spawn(
-                    move ||
-                        requires can { C.can_run crew.now }
-                        requires caller { C.is_of crew.now caller }
-                    {
-                        let left = crew.call(rt, caller, made);
-                        let _ = to.send(rt, left);
-                        end_one(running);
-                    },
-                );
-                if started.is_err() {
-                    crew.lose_caller();
-                    end_one(running);
-                }
-            }
+            start_workers(scope, rt, crew, workers, running);
+            start_callers(scope, rt, crew, &mut callers, running, made, to);
             watch(rt, all, running, made, err);
             wait_for(rt, running);
             Instant::now(rt)
         },
     )
+}
+
+/// Starts a thread for each worker. One for which no thread can be made is done without.
+fn start_workers<'s, C: Crew<R>, R: Threads + Wait + Sync, E>(
+    scope: &Scope<'s, E>,
+    rt: &'s R,
+    crew: &'s C,
+    workers: u32,
+    running: &'s AtomicU64,
+)
+    requires can { C.can_run crew.now }
+    requires lanes { 0 < C.lanes crew.now }
+{
+    for worker in 0..workers {
+        let _ = scope.spawn(
+            move ||
+                requires can { C.can_run crew.now }
+                requires lanes { 0 < C.lanes crew.now }
+            { work(rt, crew, worker, running) },
+        );
+    }
+}
+
+/// Starts a thread for each caller, which sends what it leaves when it ended. Of one for which no thread can be made the crew
+/// is told.
+fn start_callers<'s, C: Crew<R>, R: Threads + Wait + Sync, E>(
+    scope: &Scope<'s, E>,
+    rt: &'s R,
+    crew: &'s C,
+    callers: &mut Vec<C::Caller>,
+    running: &'s AtomicU64,
+    made: &'s AtomicU64,
+    to: &'s Sender<C::Left>,
+)
+    requires can { C.can_run crew.now }
+    requires callers { All (C.is_of crew.now) callers.old.items }
+{
+    while let Some(caller) = callers.pop() {
+        let started = scope.spawn(
+            move ||
+                requires can { C.can_run crew.now }
+                requires caller { C.is_of crew.now caller }
+            {
+                let left = crew.call(rt, caller, made);
+                let _ = to.send(rt, left);
+                end_one(running);
+            },
+        );
+        if started.is_err() {
+            crew.lose_caller();
+            end_one(running);
+        }
+    }
 }
 
 /// Does the upkeep of each lane in turn, beginning with the one of the worker's number, until all callers ended, and then of each

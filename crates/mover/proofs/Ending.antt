@@ -2,7 +2,7 @@
 use Rattle.mover.specs.declared.moving.Moving.{Moving}
 use Rattle.mover.proofs.public_laws.FlightLists.{fresh_number, found_last, without_last}
 use Rattle.std.proofs.Common.{◌≡◌, ◌<◌, ◌+◌, List, Option, refl, sym, subst, ◌∙◌, ap, ℕ, ◌≢◌, ◌≤◌, ◌∷◌, ◌++◌, [], length, Some}
-use Rattle.std.specs.Prelude.{Result, Ok, Err, OnErr, IsSomeAnd, All}
+use Rattle.std.specs.Prelude.{IsSomeAnd, All}
 use Rattle.std.proofs.lemmas.Bool.{lt-ltb}
 use Rattle.klog_index.specs.declared.entry.Entry.{Entry}
 use Rattle.klog.specs.declared.oldest.Oldest.TheVariants as oldest
@@ -31,11 +31,6 @@ use Rattle.mover.specs.declared.begin.Begin.{Begin}
 use Rattle.mover.specs.declared.begin.Begin.TheVariants as begin
 use Rattle.mover.specs.declared.moved_whole.MovedWhole.{MovedWhole}
 use Rattle.mover.specs.declared.moved_whole.MovedWhole.TheVariants as moved
-
--- what holds at all holds of an error
-pub on_err : {T E P : Type 0} (r : Result T E) → P → OnErr r P
-on_err (Ok x) p = tt
-on_err (Err e) p = p
 
 -- a move that landed and is in flight no more is committed
 pub landed_committed : (f : Flight) (plan : List Choice) (answer : Rewritten) (lane : LaneState) → landed f plan answer (record lane { flights = without_flight f.moving.number lane.flights }) ≡ committed f plan answer lane

@@ -15,7 +15,9 @@ mod Committing
 mod Filling
 mod MovingShows
 mod Plans
+mod Begun
 mod Ending
+mod WholeMove
 mod Gathering
 mod Marking
 mod OrderKept

@@ -24,6 +24,10 @@ noted_opened store layout lane calls deeds below same none nothing = rw (none, n
   its_deeds = refl;
 })
 
+-- the calls of a lane after one more
+pub lane_more : {D : Type 0} (store : StoreState D) (inside now : Lane D) (calls : List Noted) (n : Noted) → inside ≡ now → calls ≡ inside.calls ++ n ∷ [] → record { store = store; lane = inside.lane; calls = calls } ≡ record now { store = store; calls = now.calls ++ n ∷ [] }
+lane_more {D} store inside now calls n is more = rw more (ap (λ (l : Lane D). record l { store = store; calls = l.calls ++ n ∷ [] }) is)
+
 module _ {D : Type 0} (lane : Lane D) (deeds : List Deed) (noted : IsNoted lane deeds) where
   -- the lane whose store was served so
   pub recorded : (honest : D → Bool) (held : D → ℕ → Option (List ℕ)) → IsServed honest held (record { store = lane.store; deeds = deeds }) → IsRecorded honest held lane

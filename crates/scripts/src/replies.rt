@@ -1,8 +1,12 @@
 // The texts of a script's replies.
-ghost use Rattle.std.specs.Prelude.{◌≡◌, ◌++◌, OnOk, length};
+ghost use Rattle.std.specs.Prelude.{◌≡◌, ◌++◌, OnOk, codes, length};
+ghost use Rattle.certificate_checker.specs.declared.verdict.Verdict.TheVariants.{Accepted};
+ghost use Rattle.certificate_checker.specs.Acceptance.{IsAccepted};
+ghost use Rattle.certificate_checker.specs.VerdictLine.{verdict_line};
 ghost use Rattle.scripts.specs.Own.{seen_of};
 ghost use Rattle.scripts.specs.Replies.{shown, answer_text, tier_text, cause_text, flush_text, move_text, reply_to};
 
+use crate::recording::Recording;
 use crate::script_lane::ScriptLane;
 use certificate_checker::verdict_line_with_hasher;
 use klog::Flushed;
@@ -211,6 +215,27 @@ fn move_reply<const PAGE: usize>(
     append(text, b"\n")
 }
 
+/// Appends the verdict on calls that are accepted.
+fn append_verdict<S: BuildHasher + Drop>(
+    alloc: Global,
+    hash_builder: S,
+    recording: &Recording,
+    text: &mut Vec<u8>,
+) -> Result<(), AllocError>
+    requires { IsAccepted recording.now.history recording.now.certificate }
+    ensures { OnOk result (text.new.items ≡ text.old.items
+        ++ verdict_line Accepted (length recording.now.history) ++ codes "\n") }
+{
+    let line = verdict_line_with_hasher(
+        alloc,
+        hash_builder,
+        &recording.history,
+        &recording.certificate,
+    )?;
+    append(text, line.as_bytes())?;
+    append(text, b"\n")
+}
+
 /// The verdict on a script's calls so far.
 fn verdict_reply<const PAGE: usize, S: BuildHasher + Drop>(
     alloc: Global,
@@ -222,15 +247,7 @@ fn verdict_reply<const PAGE: usize, S: BuildHasher + Drop>(
         ≡ text.old.items ++ (reply_to PAGE (seen_of lane.now) Command.Verdict).text) }
 {
     let recording = lane.recording(alloc)?;
-    let line = verdict_line_with_hasher(
-        alloc,
-        hash_builder,
-        &recording.history,
-        &recording.certificate,
-    )?;
-    append(text, line.as_bytes())?;
-    text.push(b'\n')?;
-    Ok(())
+    append_verdict(alloc, hash_builder, &recording, text)
 }
 
 /// The trace of a script's calls so far, in hexadecimal.

@@ -20,7 +20,7 @@ use crate::recording::Recording;
 use klog::Flushed;
 use mover::MovedWhole;
 use page_device::MemoryDevice;
-use record_pages::{Answer, Config, Field, Key, Pushed, Value};
+use record_pages::{Answer, Config, Field, Key, Layout, Pushed, Value};
 use recorded_lane::{NotedRef, RecordFault, RecordPutFault, RecordedLane, accepted_in_turn};
 use rriparoo::Rriparoo;
 use std::alloc::{AllocError, Global};
@@ -31,7 +31,7 @@ use trace_file::{Act, CallRef, Certificate, History, Version, WriteTraceFault, w
 /// start `3i + 1`, point `3i + 2` and end `3i + 3`. Its moves go by the plans of `Rriparoo`.
 #[derive(Drop)]
 pub struct ScriptLane<const PAGE: usize> {
-    lane: RecordedLane<MemoryDevice<PAGE>, PAGE>,
+    lane: Box<RecordedLane<MemoryDevice<PAGE>, PAGE>>,
 }
 
 impl<const PAGE: usize> Model for ScriptLane<PAGE> {
@@ -44,9 +44,9 @@ impl<const PAGE: usize> Model for ScriptLane<PAGE> {
 
     ghost coded = { Prim.hlevel (codes, sets_code) };
 
-    ghost view = { λ s. s.lane };
+    ghost view = { λ s. s.lane.value };
 
-    ghost invariant = { λ s. IsOfScript s.lane };
+    ghost invariant = { λ s. IsOfScript s.lane.value };
 }
 
 impl<const PAGE: usize> ScriptLane<PAGE> {
@@ -67,8 +67,7 @@ impl<const PAGE: usize> ScriptLane<PAGE> {
                 field: Field::Lanes,
             });
         }
-        let device = MemoryDevice::new(alloc, layout.pages())?;
-        let lane = RecordedLane::with_layout(alloc, &layout, 0, device)?;
+        let lane = boxed_lane(alloc, &layout)?;
         Ok(ScriptLane { lane })
     }
 
@@ -163,8 +162,9 @@ impl<const PAGE: usize> ScriptLane<PAGE> {
     {
         let mut history = History::new(alloc);
         let mut certificate = Certificate::new(alloc);
-        for position in 0..self.lane.len() {
-            history.push_ref(&with_end(self.lane.at(position)))?;
+        let lane = &*self.lane;
+        for position in 0..lane.len() {
+            history.push_ref(&with_end(lane.at(position)))?;
             certificate.push(position as u32)?;
         }
         accepted_in_turn();
@@ -192,11 +192,33 @@ impl<const PAGE: usize> ScriptLane<PAGE> {
     }
 }
 
+ghost use Rattle.std.specs.Prelude.{replicate};
+ghost use Rattle.record_pages.specs.Asked.{layout_pages};
+ghost use Rattle.mover.specs.Store.{opening};
 ghost use Rattle.record_pages.specs.Bounded.{IsKey, IsValue};
 ghost use Rattle.trace_file.specs.Calls.{IsCall, value_of};
 ghost use Rattle.trace_file.specs.Lent.{act_shown, call_shown};
 ghost use Rattle.recorded_lane.specs.Points.{noted_shown};
 ghost use Rattle.scripts.specs.Own.{ended};
+
+/// The one lane of this layout over a blank device in memory.
+fn boxed_lane<const PAGE: usize>(
+    alloc: Global,
+    layout: &Layout,
+) -> Result<Box<RecordedLane<MemoryDevice<PAGE>, PAGE>>, AllocError>
+    requires page_size { IsPageSize PAGE }
+    requires lanes { layout.now.lanes ≡ 1 }
+    ensures { IfOk result (λ lane. lane.value ≡ record {
+      store = opening layout.now (replicate (layout_pages layout.now) (replicate PAGE 0));
+      lane = 0;
+      calls = [];
+    }) }
+{
+    let device = MemoryDevice::new(alloc, layout.pages())?;
+    let lane = RecordedLane::with_layout(alloc, layout, 0, device)?;
+    let boxed = Box::new(alloc, lane)?;
+    Ok(boxed)
+}
 
 /// A recorded call, with its end.
 fn with_end(noted: NotedRef<'_>) -> CallRef<'_>

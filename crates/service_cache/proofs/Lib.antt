@@ -1,3 +1,4 @@
+mod Answering
 mod Filling
 mod Honesty
 mod Helping

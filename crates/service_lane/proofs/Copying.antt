@@ -40,6 +40,10 @@ AreRight deeds copies = AreCurrent deeds (copied_pairs copies)
 none_right : (deeds : List Deed) → AreRight deeds None
 none_right deeds p here = All-contains (λ (q : Pair). current deeds q.key ≡ Some q.value) [] p (All-from_recursion (λ (q : Pair). current deeds q.key ≡ Some q.value) [] tt) here
 
+-- so are copies of which none is held
+pub none_held : (deeds : List Deed) (copies : Option CopyList) → copied_pairs copies ≡ [] → AreRight deeds copies
+none_held deeds copies none = subst (AreCurrent deeds) (sym none) (none_right deeds)
+
 -- after a deed that leaves the other keys what they have, once the copy of its key is gone
 pub gone_right : (before after : List Deed) (key : List ℕ) (old new : Option CopyList) → ((k : List ℕ) → k ≢ key → current after k ≡ current before k) → new ≡ copy_gone key old → AreRight before old → AreRight after new
 gone_right before after key None new others is right = subst (AreRight after) (sym is) (none_right after)

@@ -1,5 +1,6 @@
 mod Copying
 mod StepCounts
+mod Stepping
 mod Tending
 mod Writing
 pub mod public_laws

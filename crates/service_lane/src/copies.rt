@@ -1,8 +1,8 @@
 // Copies in memory of objects on flash.
-ghost use Rattle.std.specs.Prelude.{◌≡◌, ◌≤◌, None, IfOk, OnOk, OnErr, IsSome, option_map};
+ghost use Rattle.std.specs.Prelude.{◌≡◌, ◌≤◌, [], None, IfOk, OnOk, OnErr, IsSome, option_map};
 ghost use Rattle.record_pages.specs.Expiry.{timed};
 ghost use Rattle.memory_cache.specs.MemoryList.{after_get, after_put, after_remove, pushed_out};
-ghost use Rattle.service_lane.specs.Copies.{no_copies, with_held, live_copy, is_copy_due, hit_counted};
+ghost use Rattle.service_lane.specs.Copies.{copied_pairs, copies_for, no_copies, with_held, live_copy, is_copy_due, hit_counted};
 
 use key_hash::RandomSeed;
 use memory_cache::{MemoryCache, Pair};
@@ -125,4 +125,20 @@ impl Copies {
         }
         let _copy = self.held.remove_bytes(key);
     }
+}
+
+/// No copy yet, of one in `every` hits on flash, with room for so many objects; or no room at all, if either is 0; or `AllocError`.
+pub(crate) fn open_copies(
+    alloc: Global,
+    every: u32,
+    objects: u32,
+    seed: RandomSeed,
+) -> Result<Option<Copies>, AllocError>
+    ensures kept { IfOk result (λ copies. copies ≡ copies_for every objects) }
+    ensures none { IfOk result (λ copies. copied_pairs copies ≡ []) }
+{
+    if every == 0 || objects == 0 {
+        return Ok(None);
+    }
+    Ok(Some(Copies::open(alloc, every, objects, seed)?))
 }

@@ -14,7 +14,7 @@ ghost use Rattle.certificate_checker.specs.Current.{current};
 ghost use Rattle.certificate_checker.specs.Latest.{IsLive};
 ghost use Rattle.deeds.specs.Sound.{act_of};
 ghost use Rattle.service_lane.specs.Asked.{IsLiveHit, IsMiss, TellsExpiry};
-ghost use Rattle.service_lane.specs.Copies.{GetsCopied, CopyAnswers, HitLeaves, PutsBackIf, copies_for, copy_gone, copy_in};
+ghost use Rattle.service_lane.specs.Copies.{GetsCopied, CopyAnswers, HitLeaves, PutsBackIf, copied_pairs, copy_gone, copy_in};
 
 use crate::copied::Copied;
 use crate::copies::Copies;
@@ -63,48 +63,27 @@ impl<D: PageDevice<PAGE>, const PAGE: usize> CopyStore<D, PAGE> {
     ghost use Rattle.service_lane.specs.Asked.{IsServed};
     ghost use Rattle.service_lane.specs.Copies.{AreCopies};
 
-    /// An empty store that makes no copies, as `DeedStore::with_layout` makes it.
+    /// An empty store, as `DeedStore::with_layout` makes it, with these copies, of which it holds none yet.
     pub(crate) fn with_layout(
         alloc: Global,
         layout: &Layout,
         strikes: u32,
+        copies: Option<Copies>,
         device: D,
         seed: RandomSeed,
     ) -> Result<Self, AllocError>
         requires page_size { IsPageSize PAGE }
+        requires copies { copied_pairs copies ≡ [] }
         requires strikes { strikes ≤ 524288 }
         requires room { layout_pages layout.now ≤ D.page_count device }
         ensures { IfOk result (λ opened. opened ≡ record {
           store = opening_with strikes layout.now device;
           deeds = [];
-          copies = None;
+          copies = copies;
         }) }
     {
         let asked = DeedStore::with_layout(alloc, layout, strikes, device, seed)?;
-        Ok(CopyStore {
-            asked,
-            copies: None,
-        })
-    }
-
-    /// Makes copies from now on, of one in `every` hits on flash, into room for so many objects; or none, if either is 0.
-    /// Those that were made are gone. If memory is refused nothing changes.
-    pub(crate) fn keep_copies(
-        &mut self,
-        alloc: Global,
-        every: u32,
-        objects: u32,
-        seed: RandomSeed,
-    ) -> Result<(), AllocError>
-        ensures kept { OnOk result (self.new ≡ record self.old { copies = copies_for every objects }) }
-        ensures refused { OnErr result (self.new ≡ self.old) }
-    {
-        if every == 0 || objects == 0 {
-            self.copies = None;
-            return Ok(());
-        }
-        self.copies = Some(Copies::open(alloc, every, objects, seed)?);
-        Ok(())
+        Ok(CopyStore { asked, copies })
     }
 
     /// Looks the key of these bytes up: in the copies, and if none is live in the store. The value of a hit is in the buffer then,

@@ -119,12 +119,8 @@ impl<D: PageDevice<PAGE>, const PAGE: usize> ServiceLane<D, PAGE> {
         requires room { layout_pages layout.now ≤ D.page_count device }
         ensures { IfOk result (OpensServing layout.now lease_slots bring_back seed device) }
     {
-        let strikes = strikes_of(layout.sets);
-        let copies = copies_of(bring_back, layout.memory);
-        let parted = without_copies(layout, copies);
-        let mut asked = CopyStore::with_layout(alloc, &parted, strikes, device, seed)?;
-        asked.keep_copies(alloc, bring_back, copies, seed)?;
         let slots = Slots::open(alloc, seed, lease_slots)?;
+        let asked = open_asked(alloc, layout, bring_back, device, seed)?;
         Ok(ServiceLane {
             asked,
             slots,
@@ -185,7 +181,36 @@ impl<D: PageDevice<PAGE>, const PAGE: usize> ServiceLane<D, PAGE> {
 }
 
 ghost use Rattle.std.specs.Prelude.{◌<◌};
-ghost use Rattle.service_lane.specs.Copies.{copies_of, numbers_without};
+ghost use Rattle.service_lane.specs.Copies.{copies_for, copies_of, numbers_without};
+ghost use Rattle.service_lane.specs.Serving.{opening_to_serve};
+
+use crate::copies::open_copies;
+
+// An empty store of a lane of this layout, which brings objects back of one in so many hits on flash.
+fn open_asked<D: PageDevice<PAGE>, const PAGE: usize>(
+    alloc: Global,
+    layout: &Layout,
+    bring_back: u32,
+    device: D,
+    seed: RandomSeed,
+) -> Result<CopyStore<D, PAGE>, AllocError>
+    requires page_size { IsPageSize PAGE }
+    requires room { layout_pages layout.now ≤ D.page_count device }
+    ensures numbers { IfOk result (λ opened. HasNumbersOf opened.store.layout
+        (numbers_without layout.now (copies_of bring_back layout.now.memory))) }
+    ensures opened { IfOk result (λ opened. opened ≡ record {
+      store = opening_to_serve opened.store.layout device;
+      deeds = [];
+      copies = copies_for bring_back (copies_of bring_back layout.now.memory);
+    }) }
+{
+    let objects = copies_of(bring_back, layout.memory);
+    let copies = open_copies(alloc, bring_back, objects, seed)?;
+    let parted = without_copies(layout, objects);
+    let strikes = strikes_of(layout.sets);
+    let asked = CopyStore::with_layout(alloc, &parted, strikes, copies, device, seed)?;
+    Ok(asked)
+}
 
 // How many objects in memory are copies, of so many.
 fn copies_of(bring_back: u32, objects: u32) -> u32

@@ -1,7 +1,7 @@
 // Where a key belongs.
 
 /// Where a key belongs in a cache.
-#[derive(Clone, Copy, Debug, PartialEq, Eq)]
+#[derive(Clone, Copy, PartialEq, Eq)]
 pub struct Placed {
     /// The hash of the key.
     pub hash: u64,

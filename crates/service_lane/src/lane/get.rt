@@ -46,12 +46,16 @@ impl<D: PageDevice<PAGE>, const PAGE: usize> ServiceLane<D, PAGE> {
         ensures refused { OnErr result (self.new ≡ self.old) }
         ensures refused_found { OnErr result (found.new ≡ found.old) }
     {
-        check_key(key)?;
-        let seen = self.asked.get_into(key, moment, found);
-        self.counts.count(Counter::of_answer(seen.kind));
-        self.counts.count_if(Counter::of_copied(seen.copied));
-        self.counts.count_if(Counter::of_fate_after(seen.copied));
-        Ok(seen.kind)
+        match check_key(key) {
+            Ok(()) => {
+                let seen = self.asked.get_into(key, moment, found);
+                self.counts.count(Counter::of_answer(seen.kind));
+                self.counts.count_if(Counter::of_copied(seen.copied));
+                self.counts.count_if(Counter::of_fate_after(seen.copied));
+                Ok(seen.kind)
+            }
+            Err(fault) => Err(fault),
+        }
     }
 
     /// A lease of a key, to be taken in the same hold of the lane as the get that missed: for a fill by what is read elsewhere

@@ -86,8 +86,10 @@ impl<D: PageDevice<PAGE>, const PAGE: usize> ServiceLane<D, PAGE> {
             self.counts.count(Counter::FillsStale);
             return Ok(Filled::Stale);
         }
-        let pushed = self.fill_held(lease, key, value, word, expires)?;
-        Ok(Filled::Stored(pushed))
+        match self.fill_held(lease, key, value, word, expires) {
+            Ok(pushed) => Ok(Filled::Stored(pushed)),
+            Err(fault) => Err(fault),
+        }
     }
 
     // Fills a key by a lease that has not ended.
@@ -162,9 +164,13 @@ impl<D: PageDevice<PAGE>, const PAGE: usize> ServiceLane<D, PAGE> {
         ensures memory { result ≢ Err KeyFault.OutOfMemory }
         ensures refused { OnErr result (self.new ≡ self.old) }
     {
-        check_key(key)?;
-        self.remove_kept(key);
-        Ok(())
+        match check_key(key) {
+            Ok(()) => {
+                self.remove_kept(key);
+                Ok(())
+            }
+            Err(fault) => Err(fault),
+        }
     }
 
     // Removes the key of these bytes.

@@ -20,7 +20,7 @@ use self::names::{name_of_appended, name_of_missed, name_of_oldest, name_of_read
 use self::owner::Owner;
 use self::scripted::{play, play_on_blank};
 use super::texts::{
-    EXPIRES, NONE_REFUSED, Refused, Tried, WAS_HELD, config_of, device, layout, name_of_flush,
+    EXPIRES, NONE_REFUSED, Refused, Tried, WAS_HELD, config_of, device, is, layout, name_of_flush,
     pages_of, tell_looked,
 };
 use klog::{

@@ -13,7 +13,7 @@ mod striking;
 use self::owner::Owner;
 use self::scripted::{play, play_on_blank};
 use super::texts::{
-    EXPIRES, NONE_REFUSED, Refused, Tried, WAS_HELD, config_of, device, layout, tell_looked,
+    EXPIRES, NONE_REFUSED, Refused, Tried, WAS_HELD, config_of, device, is, layout, tell_looked,
 };
 use kset::{KSet, LocatedInSet, Rewritten, SetRead, SetRecord};
 use page_device::{MemoryDevice, PageDevice};

@@ -20,7 +20,7 @@ mod untrue;
 mod untrue_device;
 
 use self::scripted::play;
-use super::texts::{EXPIRES, WAS_HELD, config_of, name_of_flush, pages_of};
+use super::texts::{EXPIRES, WAS_HELD, config_of, is, name_of_flush, pages_of};
 use mover::{Aborted, Committed, CopyFate, MovedWhole, OpenFault, Store};
 use page_device::{FuseDevice, MemoryDevice, PageDevice};
 use record_pages::{Config, Field, Pushed, PutFault, Tier};

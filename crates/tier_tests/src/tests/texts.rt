@@ -27,6 +27,11 @@ pub const NONE_REFUSED: Refused = Refused {
     for_good: false,
 };
 
+/// Whether a word is this one.
+pub fn is(word: &[u8], name: &[u8]) -> bool {
+    word == name
+}
+
 /// Takes a configuration: the eight numbers that follow `config` in a script.
 pub fn config_of(step: &mut Step<'_>) -> Config {
     Config {

@@ -37,3 +37,12 @@ returns-in-Some-2 g c =
     let l = c.look-seen in
     done g.row.PAGE d.honest d.failures d.held a.key.now a.turn (delete_plan a.compare) a.lane.now l.new.lane l.new.lane l.result l.new.found c.bytes.result.now c.bytes.ensures.value l.ensures
     c.live_item.result c.live_item.ensures.live (Keep Exists) (by_agreeing a.compare c.live_item.result c.in-Some.item false c.in-Some.is (sym c.agrees.ensures ∙ c.if-agrees.false)) (Ok Exists) (refl, refl)
+
+pub look-seen-requires : goal.look-seen-requires
+look-seen-requires g c = assumption
+
+pub remove-requires : goal.remove-requires
+remove-requires g c = assumption
+
+pub remove-requires-in-Some : goal.remove-requires-in-Some
+remove-requires-in-Some g c = assumption

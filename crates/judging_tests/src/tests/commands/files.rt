@@ -367,7 +367,7 @@ fn strayed<R: AllocGlobal + Files + Input + RandomSource>(
 fn files_are_read_and_what_is_wanted_is_written(rt: HostRuntime) -> Result<(), Fail> {
     let mut out: Vec<u8> = Vec::new(rt.alloc());
     let mut told: Vec<u8> = Vec::new(rt.alloc());
-    assert!(rt; strayed(&rt, &mut out, &mut told)? == None);
+    assert!(rt; strayed(&rt, &mut out, &mut told)?.is_none());
     assert!(rt; out.as_slice() == WRITTEN.as_bytes());
     assert!(rt; told.as_slice() == TOLD.as_bytes());
     Ok(())

@@ -1,5 +1,5 @@
 // Histories whose keys are decided by several rules.
-use super::telling::{Did, Row, Want, call, found, history_of};
+use super::telling::{Did, Row, Want, call, found, found_for};
 use certificate_finder::{Found, find};
 use std::alloc::Global;
 use std::test::Fail;
@@ -94,8 +94,7 @@ fn history_by_keys(alloc: Global, tables: &[&[Row]]) -> Result<History, Fail> {
 #[test]
 fn each_rule_finds_what_no_other_does(rt: HostRuntime) -> Result<(), Fail> {
     for rows in BY_RULE.iter() {
-        let history = history_of(rt.alloc(), *rows)?;
-        assert!(rt; found(rt.alloc(), &history)? == Some(Want::Accepted));
+        assert!(rt; found_for(rt.alloc(), *rows)? == Some(Want::Accepted));
     }
     Ok(())
 }
@@ -108,12 +107,10 @@ fn found_by_keys(alloc: Global, tables: &[&[Row]]) -> Result<Option<Want>, Fail>
 
 #[test]
 fn keys_are_decided_by_rules_of_their_own(rt: HostRuntime) -> Result<(), Fail> {
-    let two = found_by_keys(rt.alloc(), &[BY_RULE[0], BY_RULE[1]])?;
-    assert!(rt; two == Some(Want::Accepted));
-    let later_first = found_by_keys(rt.alloc(), &[BY_RULE[4], BY_RULE[2]])?;
-    assert!(rt; later_first == Some(Want::Accepted));
-    let all = found_by_keys(rt.alloc(), &BY_RULE)?;
-    assert!(rt; all == Some(Want::Accepted));
+    let accepted = Some(Want::Accepted);
+    assert!(rt; found_by_keys(rt.alloc(), &[BY_RULE[0], BY_RULE[1]])? == accepted);
+    assert!(rt; found_by_keys(rt.alloc(), &[BY_RULE[4], BY_RULE[2]])? == accepted);
+    assert!(rt; found_by_keys(rt.alloc(), &BY_RULE)? == accepted);
     Ok(())
 }
 

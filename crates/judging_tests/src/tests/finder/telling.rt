@@ -89,11 +89,19 @@ pub(super) fn found(alloc: Global, history: &History) -> Result<Option<Want>, Fa
     }
 }
 
+/// What is found for the calls of a table.
+pub(super) fn found_for(alloc: Global, rows: &[Row]) -> Result<Option<Want>, Fail> {
+    let history = history_of(alloc, rows)?;
+    found(alloc, &history)
+}
+
+/// The calls of a history, and what is to be found for it.
+type Case = (&'static [Row], Want);
+
 /// Each history of a table has what is to be found for it.
-fn find_each(alloc: Global, table: &[(&[Row], Want)]) -> Result<(), Fail> {
+fn find_each(alloc: Global, table: &[Case]) -> Result<(), Fail> {
     for (row, (rows, want)) in table.iter().enumerate() {
-        let history = history_of(alloc, *rows)?;
-        let is = found(alloc, &history)?;
+        let is = found_for(alloc, *rows)?;
         if is != Some(*want) {
             return Err(Fail::new(format_args!("row {row}")));
         }
@@ -101,435 +109,439 @@ fn find_each(alloc: Global, table: &[(&[Row], Want)]) -> Result<(), Fail> {
     Ok(())
 }
 
+static TELLING: [Case; 20] = [
+    // No call, and one of each kind.
+    (&[], Want::Accepted),
+    (&[(1, 0, 0, Did::Put(1))], Want::Accepted),
+    (&[(1, 0, 0, Did::Miss)], Want::Accepted),
+    (&[(1, 0, 0, Did::Hit(1))], Want::Hit),
+    (&[(1, 4, 3, Did::Remove)], Want::Interval),
+    // A hit before its put, at one stamp with it, and after it.
+    (&[(1, 0, 1, Did::Hit(1)), (1, 2, 3, Did::Put(1))], Want::Hit),
+    (
+        &[(1, 0, 2, Did::Hit(1)), (1, 2, 3, Did::Put(1))],
+        Want::Accepted,
+    ),
+    (
+        &[(1, 4, 5, Did::Hit(1)), (1, 2, 3, Did::Put(1))],
+        Want::Accepted,
+    ),
+    // A stale hit: after another put, and after a removal; not if they overlap; not if they are of another key.
+    (
+        &[
+            (1, 0, 1, Did::Put(1)),
+            (1, 2, 3, Did::Put(2)),
+            (1, 4, 5, Did::Hit(1)),
+        ],
+        Want::Hit,
+    ),
+    (
+        &[
+            (1, 0, 1, Did::Put(1)),
+            (1, 2, 3, Did::Remove),
+            (1, 4, 5, Did::Hit(1)),
+        ],
+        Want::Hit,
+    ),
+    (
+        &[
+            (1, 0, 1, Did::Put(1)),
+            (1, 2, 4, Did::Remove),
+            (1, 4, 5, Did::Hit(1)),
+        ],
+        Want::Accepted,
+    ),
+    (
+        &[
+            (1, 0, 1, Did::Put(1)),
+            (2, 2, 3, Did::Remove),
+            (1, 4, 5, Did::Hit(1)),
+        ],
+        Want::Accepted,
+    ),
+    // A put that ends late, read before and after one that it spans.
+    (
+        &[
+            (1, 0, 9, Did::Put(1)),
+            (1, 2, 3, Did::Put(2)),
+            (1, 4, 5, Did::Hit(1)),
+            (1, 6, 7, Did::Hit(1)),
+        ],
+        Want::Accepted,
+    ),
+    (
+        &[
+            (1, 0, 9, Did::Put(1)),
+            (1, 1, 2, Did::Hit(1)),
+            (1, 3, 4, Did::Put(2)),
+            (1, 5, 6, Did::Hit(1)),
+        ],
+        Want::Crossed,
+    ),
+    // Two writes each of which has to stand first.
+    (
+        &[
+            (1, 0, 9, Did::Put(1)),
+            (1, 0, 9, Did::Put(2)),
+            (1, 1, 2, Did::Hit(1)),
+            (1, 3, 4, Did::Hit(2)),
+            (1, 5, 6, Did::Hit(1)),
+        ],
+        Want::Crossed,
+    ),
+    // Expired at the moment of the hit, and a moment before.
+    (
+        &[(1, 0, 1, Did::Expiring(1, 5)), (1, 2, 3, Did::HitAt(1, 5))],
+        Want::Hit,
+    ),
+    (
+        &[(1, 0, 1, Did::Expiring(1, 5)), (1, 2, 3, Did::HitAt(1, 4))],
+        Want::Accepted,
+    ),
+    // A value that was put twice: both can have been read, or the first one can't.
+    (
+        &[
+            (1, 0, 9, Did::Put(1)),
+            (1, 0, 9, Did::Put(1)),
+            (1, 1, 2, Did::Hit(1)),
+        ],
+        Want::Accepted,
+    ),
+    (
+        &[
+            (1, 0, 1, Did::Put(1)),
+            (1, 2, 3, Did::Put(1)),
+            (1, 4, 5, Did::Hit(1)),
+        ],
+        Want::Accepted,
+    ),
+    // One hit can have read two puts, and another one none.
+    (
+        &[
+            (1, 0, 9, Did::Put(1)),
+            (1, 0, 9, Did::Put(1)),
+            (1, 1, 2, Did::Hit(1)),
+            (2, 0, 1, Did::Hit(3)),
+        ],
+        Want::Hit,
+    ),
+];
+
 #[test]
 fn what_is_found_for_telling_histories(rt: HostRuntime) -> Result<(), Fail> {
-    let table: [(&[Row], Want); 20] = [
-        // No call, and one of each kind.
-        (&[], Want::Accepted),
-        (&[(1, 0, 0, Did::Put(1))], Want::Accepted),
-        (&[(1, 0, 0, Did::Miss)], Want::Accepted),
-        (&[(1, 0, 0, Did::Hit(1))], Want::Hit),
-        (&[(1, 4, 3, Did::Remove)], Want::Interval),
-        // A hit before its put, at one stamp with it, and after it.
-        (&[(1, 0, 1, Did::Hit(1)), (1, 2, 3, Did::Put(1))], Want::Hit),
-        (
-            &[(1, 0, 2, Did::Hit(1)), (1, 2, 3, Did::Put(1))],
-            Want::Accepted,
-        ),
-        (
-            &[(1, 4, 5, Did::Hit(1)), (1, 2, 3, Did::Put(1))],
-            Want::Accepted,
-        ),
-        // A stale hit: after another put, and after a removal; not if they overlap; not if they are of another key.
-        (
-            &[
-                (1, 0, 1, Did::Put(1)),
-                (1, 2, 3, Did::Put(2)),
-                (1, 4, 5, Did::Hit(1)),
-            ],
-            Want::Hit,
-        ),
-        (
-            &[
-                (1, 0, 1, Did::Put(1)),
-                (1, 2, 3, Did::Remove),
-                (1, 4, 5, Did::Hit(1)),
-            ],
-            Want::Hit,
-        ),
-        (
-            &[
-                (1, 0, 1, Did::Put(1)),
-                (1, 2, 4, Did::Remove),
-                (1, 4, 5, Did::Hit(1)),
-            ],
-            Want::Accepted,
-        ),
-        (
-            &[
-                (1, 0, 1, Did::Put(1)),
-                (2, 2, 3, Did::Remove),
-                (1, 4, 5, Did::Hit(1)),
-            ],
-            Want::Accepted,
-        ),
-        // A put that ends late, read before and after one that it spans.
-        (
-            &[
-                (1, 0, 9, Did::Put(1)),
-                (1, 2, 3, Did::Put(2)),
-                (1, 4, 5, Did::Hit(1)),
-                (1, 6, 7, Did::Hit(1)),
-            ],
-            Want::Accepted,
-        ),
-        (
-            &[
-                (1, 0, 9, Did::Put(1)),
-                (1, 1, 2, Did::Hit(1)),
-                (1, 3, 4, Did::Put(2)),
-                (1, 5, 6, Did::Hit(1)),
-            ],
-            Want::Crossed,
-        ),
-        // Two writes each of which has to stand first.
-        (
-            &[
-                (1, 0, 9, Did::Put(1)),
-                (1, 0, 9, Did::Put(2)),
-                (1, 1, 2, Did::Hit(1)),
-                (1, 3, 4, Did::Hit(2)),
-                (1, 5, 6, Did::Hit(1)),
-            ],
-            Want::Crossed,
-        ),
-        // Expired at the moment of the hit, and a moment before.
-        (
-            &[(1, 0, 1, Did::Expiring(1, 5)), (1, 2, 3, Did::HitAt(1, 5))],
-            Want::Hit,
-        ),
-        (
-            &[(1, 0, 1, Did::Expiring(1, 5)), (1, 2, 3, Did::HitAt(1, 4))],
-            Want::Accepted,
-        ),
-        // A value that was put twice: both can have been read, or the first one can't.
-        (
-            &[
-                (1, 0, 9, Did::Put(1)),
-                (1, 0, 9, Did::Put(1)),
-                (1, 1, 2, Did::Hit(1)),
-            ],
-            Want::Accepted,
-        ),
-        (
-            &[
-                (1, 0, 1, Did::Put(1)),
-                (1, 2, 3, Did::Put(1)),
-                (1, 4, 5, Did::Hit(1)),
-            ],
-            Want::Accepted,
-        ),
-        // One hit can have read two puts, and another one none.
-        (
-            &[
-                (1, 0, 9, Did::Put(1)),
-                (1, 0, 9, Did::Put(1)),
-                (1, 1, 2, Did::Hit(1)),
-                (2, 0, 1, Did::Hit(3)),
-            ],
-            Want::Hit,
-        ),
-    ];
-    find_each(rt.alloc(), &table)
+    find_each(rt.alloc(), &TELLING)
 }
+
+static CROSSED: [Case; 9] = [
+    // Between two reads of a value another one was put, or it was removed; not if the times touch.
+    (
+        &[
+            (1, 0, 9, Did::Put(1)),
+            (1, 1, 2, Did::Hit(1)),
+            (1, 3, 6, Did::Put(2)),
+            (1, 7, 8, Did::Hit(1)),
+        ],
+        Want::Crossed,
+    ),
+    (
+        &[
+            (1, 0, 9, Did::Put(1)),
+            (1, 1, 2, Did::Hit(1)),
+            (1, 3, 7, Did::Put(2)),
+            (1, 7, 8, Did::Hit(1)),
+        ],
+        Want::Accepted,
+    ),
+    (
+        &[
+            (1, 0, 9, Did::Put(1)),
+            (1, 1, 2, Did::Hit(1)),
+            (1, 2, 6, Did::Put(2)),
+            (1, 7, 8, Did::Hit(1)),
+        ],
+        Want::Accepted,
+    ),
+    (
+        &[
+            (1, 0, 9, Did::Put(1)),
+            (1, 1, 2, Did::Hit(1)),
+            (1, 3, 4, Did::Remove),
+            (1, 5, 6, Did::Hit(1)),
+        ],
+        Want::Crossed,
+    ),
+    // Puts at one time, whose reads go one after the other, back and forth, and back and forth at equal stamps.
+    (
+        &[
+            (1, 0, 9, Did::Put(1)),
+            (1, 0, 9, Did::Put(2)),
+            (1, 0, 9, Did::Put(3)),
+            (1, 1, 2, Did::Hit(3)),
+            (1, 3, 4, Did::Hit(1)),
+            (1, 5, 6, Did::Hit(2)),
+        ],
+        Want::Accepted,
+    ),
+    (
+        &[
+            (1, 0, 9, Did::Put(1)),
+            (1, 0, 9, Did::Put(2)),
+            (1, 0, 9, Did::Put(3)),
+            (1, 1, 2, Did::Hit(3)),
+            (1, 3, 4, Did::Hit(1)),
+            (1, 5, 6, Did::Hit(3)),
+        ],
+        Want::Crossed,
+    ),
+    (
+        &[
+            (1, 0, 9, Did::Put(1)),
+            (1, 0, 9, Did::Put(2)),
+            (1, 1, 2, Did::Hit(1)),
+            (1, 2, 3, Did::Hit(2)),
+            (1, 3, 4, Did::Hit(1)),
+        ],
+        Want::Accepted,
+    ),
+    // Of two keys.
+    (
+        &[
+            (1, 0, 9, Did::Put(1)),
+            (1, 1, 2, Did::Hit(1)),
+            (2, 3, 6, Did::Put(2)),
+            (1, 7, 8, Did::Hit(1)),
+        ],
+        Want::Accepted,
+    ),
+    // Beside a hit that can have read two puts.
+    (
+        &[
+            (2, 0, 9, Did::Put(1)),
+            (2, 0, 9, Did::Put(1)),
+            (2, 1, 2, Did::Hit(1)),
+            (1, 0, 9, Did::Put(1)),
+            (1, 1, 2, Did::Hit(1)),
+            (1, 3, 6, Did::Remove),
+            (1, 7, 8, Did::Hit(1)),
+        ],
+        Want::Crossed,
+    ),
+];
 
 #[test]
 fn what_is_found_for_writes_that_are_crossed(rt: HostRuntime) -> Result<(), Fail> {
-    let table: [(&[Row], Want); 9] = [
-        // Between two reads of a value another one was put, or it was removed; not if the times touch.
-        (
-            &[
-                (1, 0, 9, Did::Put(1)),
-                (1, 1, 2, Did::Hit(1)),
-                (1, 3, 6, Did::Put(2)),
-                (1, 7, 8, Did::Hit(1)),
-            ],
-            Want::Crossed,
-        ),
-        (
-            &[
-                (1, 0, 9, Did::Put(1)),
-                (1, 1, 2, Did::Hit(1)),
-                (1, 3, 7, Did::Put(2)),
-                (1, 7, 8, Did::Hit(1)),
-            ],
-            Want::Accepted,
-        ),
-        (
-            &[
-                (1, 0, 9, Did::Put(1)),
-                (1, 1, 2, Did::Hit(1)),
-                (1, 2, 6, Did::Put(2)),
-                (1, 7, 8, Did::Hit(1)),
-            ],
-            Want::Accepted,
-        ),
-        (
-            &[
-                (1, 0, 9, Did::Put(1)),
-                (1, 1, 2, Did::Hit(1)),
-                (1, 3, 4, Did::Remove),
-                (1, 5, 6, Did::Hit(1)),
-            ],
-            Want::Crossed,
-        ),
-        // Puts at one time, whose reads go one after the other, back and forth, and back and forth at equal stamps.
-        (
-            &[
-                (1, 0, 9, Did::Put(1)),
-                (1, 0, 9, Did::Put(2)),
-                (1, 0, 9, Did::Put(3)),
-                (1, 1, 2, Did::Hit(3)),
-                (1, 3, 4, Did::Hit(1)),
-                (1, 5, 6, Did::Hit(2)),
-            ],
-            Want::Accepted,
-        ),
-        (
-            &[
-                (1, 0, 9, Did::Put(1)),
-                (1, 0, 9, Did::Put(2)),
-                (1, 0, 9, Did::Put(3)),
-                (1, 1, 2, Did::Hit(3)),
-                (1, 3, 4, Did::Hit(1)),
-                (1, 5, 6, Did::Hit(3)),
-            ],
-            Want::Crossed,
-        ),
-        (
-            &[
-                (1, 0, 9, Did::Put(1)),
-                (1, 0, 9, Did::Put(2)),
-                (1, 1, 2, Did::Hit(1)),
-                (1, 2, 3, Did::Hit(2)),
-                (1, 3, 4, Did::Hit(1)),
-            ],
-            Want::Accepted,
-        ),
-        // Of two keys.
-        (
-            &[
-                (1, 0, 9, Did::Put(1)),
-                (1, 1, 2, Did::Hit(1)),
-                (2, 3, 6, Did::Put(2)),
-                (1, 7, 8, Did::Hit(1)),
-            ],
-            Want::Accepted,
-        ),
-        // Beside a hit that can have read two puts.
-        (
-            &[
-                (2, 0, 9, Did::Put(1)),
-                (2, 0, 9, Did::Put(1)),
-                (2, 1, 2, Did::Hit(1)),
-                (1, 0, 9, Did::Put(1)),
-                (1, 1, 2, Did::Hit(1)),
-                (1, 3, 6, Did::Remove),
-                (1, 7, 8, Did::Hit(1)),
-            ],
-            Want::Crossed,
-        ),
-    ];
-    find_each(rt.alloc(), &table)
+    find_each(rt.alloc(), &CROSSED)
 }
+
+static EXPIRING: [Case; 10] = [
+    // Of two puts both had expired, one had, or none.
+    (
+        &[
+            (1, 0, 9, Did::Expiring(1, 5)),
+            (1, 0, 9, Did::Expiring(1, 6)),
+            (1, 1, 2, Did::HitAt(1, 6)),
+        ],
+        Want::Hit,
+    ),
+    (
+        &[
+            (1, 0, 9, Did::Expiring(1, 5)),
+            (1, 0, 9, Did::Expiring(1, 7)),
+            (1, 1, 2, Did::HitAt(1, 6)),
+        ],
+        Want::Accepted,
+    ),
+    (
+        &[
+            (1, 0, 9, Did::Expiring(1, 7)),
+            (1, 0, 9, Did::Put(1)),
+            (1, 1, 2, Did::HitAt(1, 6)),
+        ],
+        Want::Accepted,
+    ),
+    // At the greatest moments, of a put that never expires and one that expires last.
+    (
+        &[
+            (1, 0, 9, Did::Put(1)),
+            (1, 0, 9, Did::Expiring(1, 18446744073709551614)),
+            (1, 1, 2, Did::HitAt(1, 18446744073709551615)),
+            (1, 1, 2, Did::HitAt(1, 18446744073709551614)),
+        ],
+        Want::Accepted,
+    ),
+    (
+        &[
+            (1, 0, 9, Did::Put(1)),
+            (1, 0, 9, Did::Expiring(1, 18446744073709551614)),
+            (1, 1, 2, Did::HitAt(1, 18446744073709551613)),
+        ],
+        Want::Accepted,
+    ),
+    // The one that is live was removed; and beside such a one another is live that was not: it alone can have been read.
+    (
+        &[
+            (1, 0, 1, Did::Expiring(1, 9)),
+            (1, 2, 3, Did::Remove),
+            (1, 4, 9, Did::Expiring(1, 5)),
+            (1, 4, 9, Did::Expiring(1, 5)),
+            (1, 5, 6, Did::HitAt(1, 6)),
+        ],
+        Want::Hit,
+    ),
+    (
+        &[
+            (1, 0, 1, Did::Expiring(1, 9)),
+            (1, 2, 3, Did::Remove),
+            (1, 4, 9, Did::Expiring(1, 5)),
+            (1, 4, 9, Did::Expiring(1, 9)),
+            (1, 5, 6, Did::HitAt(1, 6)),
+        ],
+        Want::Accepted,
+    ),
+    // Beside puts of another key and of another value: one that stands and is live, and two.
+    (
+        &[
+            (1, 0, 1, Did::Expiring(1, 9)),
+            (1, 2, 3, Did::Remove),
+            (1, 4, 5, Did::Expiring(1, 4)),
+            (1, 4, 9, Did::Expiring(1, 9)),
+            (2, 4, 9, Did::Expiring(1, 9)),
+            (1, 4, 9, Did::Expiring(2, 9)),
+            (1, 6, 7, Did::HitAt(1, 5)),
+        ],
+        Want::Accepted,
+    ),
+    (
+        &[
+            (1, 0, 1, Did::Expiring(1, 9)),
+            (1, 2, 3, Did::Remove),
+            (1, 4, 5, Did::Expiring(1, 8)),
+            (1, 4, 9, Did::Expiring(1, 9)),
+            (2, 4, 9, Did::Expiring(1, 9)),
+            (1, 4, 9, Did::Expiring(2, 9)),
+            (1, 6, 7, Did::HitAt(1, 5)),
+        ],
+        Want::Accepted,
+    ),
+    // Two reads that only one of two puts explains, and between them another value.
+    (
+        &[
+            (1, 0, 9, Did::Expiring(1, 5)),
+            (1, 0, 9, Did::Expiring(1, 9)),
+            (1, 0, 9, Did::Put(2)),
+            (1, 1, 2, Did::HitAt(1, 6)),
+            (1, 3, 4, Did::Hit(2)),
+            (1, 5, 6, Did::HitAt(1, 6)),
+        ],
+        Want::Crossed,
+    ),
+];
 
 #[test]
 fn what_is_found_where_values_expire(rt: HostRuntime) -> Result<(), Fail> {
-    let table: [(&[Row], Want); 10] = [
-        // Of two puts both had expired, one had, or none.
-        (
-            &[
-                (1, 0, 9, Did::Expiring(1, 5)),
-                (1, 0, 9, Did::Expiring(1, 6)),
-                (1, 1, 2, Did::HitAt(1, 6)),
-            ],
-            Want::Hit,
-        ),
-        (
-            &[
-                (1, 0, 9, Did::Expiring(1, 5)),
-                (1, 0, 9, Did::Expiring(1, 7)),
-                (1, 1, 2, Did::HitAt(1, 6)),
-            ],
-            Want::Accepted,
-        ),
-        (
-            &[
-                (1, 0, 9, Did::Expiring(1, 7)),
-                (1, 0, 9, Did::Put(1)),
-                (1, 1, 2, Did::HitAt(1, 6)),
-            ],
-            Want::Accepted,
-        ),
-        // At the greatest moments, of a put that never expires and one that expires last.
-        (
-            &[
-                (1, 0, 9, Did::Put(1)),
-                (1, 0, 9, Did::Expiring(1, 18446744073709551614)),
-                (1, 1, 2, Did::HitAt(1, 18446744073709551615)),
-                (1, 1, 2, Did::HitAt(1, 18446744073709551614)),
-            ],
-            Want::Accepted,
-        ),
-        (
-            &[
-                (1, 0, 9, Did::Put(1)),
-                (1, 0, 9, Did::Expiring(1, 18446744073709551614)),
-                (1, 1, 2, Did::HitAt(1, 18446744073709551613)),
-            ],
-            Want::Accepted,
-        ),
-        // The one that is live was removed; and beside such a one another is live that was not: it alone can have been read.
-        (
-            &[
-                (1, 0, 1, Did::Expiring(1, 9)),
-                (1, 2, 3, Did::Remove),
-                (1, 4, 9, Did::Expiring(1, 5)),
-                (1, 4, 9, Did::Expiring(1, 5)),
-                (1, 5, 6, Did::HitAt(1, 6)),
-            ],
-            Want::Hit,
-        ),
-        (
-            &[
-                (1, 0, 1, Did::Expiring(1, 9)),
-                (1, 2, 3, Did::Remove),
-                (1, 4, 9, Did::Expiring(1, 5)),
-                (1, 4, 9, Did::Expiring(1, 9)),
-                (1, 5, 6, Did::HitAt(1, 6)),
-            ],
-            Want::Accepted,
-        ),
-        // Beside puts of another key and of another value: one that stands and is live, and two.
-        (
-            &[
-                (1, 0, 1, Did::Expiring(1, 9)),
-                (1, 2, 3, Did::Remove),
-                (1, 4, 5, Did::Expiring(1, 4)),
-                (1, 4, 9, Did::Expiring(1, 9)),
-                (2, 4, 9, Did::Expiring(1, 9)),
-                (1, 4, 9, Did::Expiring(2, 9)),
-                (1, 6, 7, Did::HitAt(1, 5)),
-            ],
-            Want::Accepted,
-        ),
-        (
-            &[
-                (1, 0, 1, Did::Expiring(1, 9)),
-                (1, 2, 3, Did::Remove),
-                (1, 4, 5, Did::Expiring(1, 8)),
-                (1, 4, 9, Did::Expiring(1, 9)),
-                (2, 4, 9, Did::Expiring(1, 9)),
-                (1, 4, 9, Did::Expiring(2, 9)),
-                (1, 6, 7, Did::HitAt(1, 5)),
-            ],
-            Want::Accepted,
-        ),
-        // Two reads that only one of two puts explains, and between them another value.
-        (
-            &[
-                (1, 0, 9, Did::Expiring(1, 5)),
-                (1, 0, 9, Did::Expiring(1, 9)),
-                (1, 0, 9, Did::Put(2)),
-                (1, 1, 2, Did::HitAt(1, 6)),
-                (1, 3, 4, Did::Hit(2)),
-                (1, 5, 6, Did::HitAt(1, 6)),
-            ],
-            Want::Crossed,
-        ),
-    ];
-    find_each(rt.alloc(), &table)
+    find_each(rt.alloc(), &EXPIRING)
 }
+
+static REPEATED: [Case; 7] = [
+    // Two equal puts, with a hit of each, and a removal between them.
+    (
+        &[
+            (1, 0, 4, Did::Put(1)),
+            (1, 2, 9, Did::Put(1)),
+            (1, 1, 3, Did::Hit(1)),
+            (1, 5, 6, Did::Remove),
+            (1, 7, 8, Did::Hit(1)),
+        ],
+        Want::Accepted,
+    ),
+    // Two callers miss and both load the row, which changes: twice.
+    (
+        &[
+            (1, 0, 1, Did::Miss),
+            (1, 0, 2, Did::Miss),
+            (1, 2, 5, Did::Put(1)),
+            (1, 3, 6, Did::Put(1)),
+            (1, 6, 7, Did::Hit(1)),
+            (1, 8, 9, Did::Remove),
+            (1, 10, 13, Did::Put(2)),
+            (1, 11, 14, Did::Put(2)),
+            (1, 12, 15, Did::Hit(2)),
+            (1, 16, 17, Did::Hit(2)),
+        ],
+        Want::Accepted,
+    ),
+    // Two values that are put by turns, each by two callers, with hits of both.
+    (
+        &[
+            (1, 0, 3, Did::Put(0)),
+            (1, 1, 4, Did::Put(0)),
+            (1, 3, 4, Did::Hit(0)),
+            (1, 5, 8, Did::Put(1)),
+            (1, 6, 9, Did::Put(1)),
+            (1, 6, 6, Did::Hit(0)),
+            (1, 8, 9, Did::Hit(1)),
+            (1, 10, 13, Did::Put(0)),
+            (1, 11, 11, Did::Hit(1)),
+            (1, 12, 14, Did::Hit(0)),
+        ],
+        Want::Accepted,
+    ),
+    // A value of one put is read, then one of two puts, then the first one again: no order has all three.
+    (
+        &[
+            (1, 0, 9, Did::Put(1)),
+            (1, 0, 9, Did::Put(1)),
+            (1, 0, 9, Did::Put(2)),
+            (1, 1, 2, Did::Hit(2)),
+            (1, 3, 4, Did::Hit(1)),
+            (1, 5, 6, Did::Hit(2)),
+        ],
+        Want::Unread,
+    ),
+    // Such a one, and at another key a hit that can have read no put.
+    (
+        &[
+            (1, 0, 9, Did::Put(1)),
+            (1, 0, 9, Did::Put(1)),
+            (1, 0, 9, Did::Put(2)),
+            (1, 1, 2, Did::Hit(2)),
+            (1, 3, 4, Did::Hit(1)),
+            (1, 5, 6, Did::Hit(2)),
+            (2, 5, 6, Did::Hit(2)),
+        ],
+        Want::Hit,
+    ),
+    // Beside hits that several puts fit, hits of one put each exclude every order.
+    (
+        &[
+            (1, 0, 9, Did::Put(1)),
+            (1, 0, 9, Did::Put(1)),
+            (1, 0, 9, Did::Put(2)),
+            (1, 0, 9, Did::Put(3)),
+            (1, 1, 2, Did::Hit(2)),
+            (1, 3, 4, Did::Hit(3)),
+            (1, 3, 4, Did::Hit(1)),
+            (1, 5, 6, Did::Hit(2)),
+        ],
+        Want::Crossed,
+    ),
+    // An order has these three hits, but no rule finds it: each takes one of the equal puts for both its hits.
+    (
+        &[
+            (1, 0, 9, Did::Put(1)),
+            (1, 0, 9, Did::Put(1)),
+            (1, 0, 9, Did::Put(2)),
+            (1, 1, 2, Did::Hit(1)),
+            (1, 3, 4, Did::Hit(2)),
+            (1, 5, 6, Did::Hit(1)),
+        ],
+        Want::Undecided,
+    ),
+];
 
 #[test]
 fn what_is_found_where_values_repeat(rt: HostRuntime) -> Result<(), Fail> {
-    let table: [(&[Row], Want); 7] = [
-        // Two equal puts, with a hit of each, and a removal between them.
-        (
-            &[
-                (1, 0, 4, Did::Put(1)),
-                (1, 2, 9, Did::Put(1)),
-                (1, 1, 3, Did::Hit(1)),
-                (1, 5, 6, Did::Remove),
-                (1, 7, 8, Did::Hit(1)),
-            ],
-            Want::Accepted,
-        ),
-        // Two callers miss and both load the row, which changes: twice.
-        (
-            &[
-                (1, 0, 1, Did::Miss),
-                (1, 0, 2, Did::Miss),
-                (1, 2, 5, Did::Put(1)),
-                (1, 3, 6, Did::Put(1)),
-                (1, 6, 7, Did::Hit(1)),
-                (1, 8, 9, Did::Remove),
-                (1, 10, 13, Did::Put(2)),
-                (1, 11, 14, Did::Put(2)),
-                (1, 12, 15, Did::Hit(2)),
-                (1, 16, 17, Did::Hit(2)),
-            ],
-            Want::Accepted,
-        ),
-        // Two values that are put by turns, each by two callers, with hits of both.
-        (
-            &[
-                (1, 0, 3, Did::Put(0)),
-                (1, 1, 4, Did::Put(0)),
-                (1, 3, 4, Did::Hit(0)),
-                (1, 5, 8, Did::Put(1)),
-                (1, 6, 9, Did::Put(1)),
-                (1, 6, 6, Did::Hit(0)),
-                (1, 8, 9, Did::Hit(1)),
-                (1, 10, 13, Did::Put(0)),
-                (1, 11, 11, Did::Hit(1)),
-                (1, 12, 14, Did::Hit(0)),
-            ],
-            Want::Accepted,
-        ),
-        // A value of one put is read, then one of two puts, then the first one again: no order has all three.
-        (
-            &[
-                (1, 0, 9, Did::Put(1)),
-                (1, 0, 9, Did::Put(1)),
-                (1, 0, 9, Did::Put(2)),
-                (1, 1, 2, Did::Hit(2)),
-                (1, 3, 4, Did::Hit(1)),
-                (1, 5, 6, Did::Hit(2)),
-            ],
-            Want::Unread,
-        ),
-        // Such a one, and at another key a hit that can have read no put.
-        (
-            &[
-                (1, 0, 9, Did::Put(1)),
-                (1, 0, 9, Did::Put(1)),
-                (1, 0, 9, Did::Put(2)),
-                (1, 1, 2, Did::Hit(2)),
-                (1, 3, 4, Did::Hit(1)),
-                (1, 5, 6, Did::Hit(2)),
-                (2, 5, 6, Did::Hit(2)),
-            ],
-            Want::Hit,
-        ),
-        // Beside hits that several puts fit, hits of one put each exclude every order.
-        (
-            &[
-                (1, 0, 9, Did::Put(1)),
-                (1, 0, 9, Did::Put(1)),
-                (1, 0, 9, Did::Put(2)),
-                (1, 0, 9, Did::Put(3)),
-                (1, 1, 2, Did::Hit(2)),
-                (1, 3, 4, Did::Hit(3)),
-                (1, 3, 4, Did::Hit(1)),
-                (1, 5, 6, Did::Hit(2)),
-            ],
-            Want::Crossed,
-        ),
-        // An order has these three hits, but no rule finds it: each takes one of the equal puts for both its hits.
-        (
-            &[
-                (1, 0, 9, Did::Put(1)),
-                (1, 0, 9, Did::Put(1)),
-                (1, 0, 9, Did::Put(2)),
-                (1, 1, 2, Did::Hit(1)),
-                (1, 3, 4, Did::Hit(2)),
-                (1, 5, 6, Did::Hit(1)),
-            ],
-            Want::Undecided,
-        ),
-    ];
-    find_each(rt.alloc(), &table)
+    find_each(rt.alloc(), &REPEATED)
 }
 
 /// How many calls a long history has.

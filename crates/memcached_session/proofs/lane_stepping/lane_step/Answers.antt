@@ -1,5 +1,5 @@
 -- A step with a lane does what is asked of the lane, and takes a byte or more.
-use Rattle.std.proofs.Common.{rules, ℕ, ◌≤◌, ◌∙◌, ap, sym, subst}
+use Rattle.std.proofs.Common.{ℕ, ◌≤◌, ◌∙◌, ap, sym, subst}
 use Rattle.item_lane.specs.declared.command_turn.CommandTurn.{CommandTurn}
 use Rattle.memcached_text.specs.declared.request_reader.RequestReader.{RequestReader}
 use Rattle.memcached_text.specs.Steps.{outcome, event_shown, step_of}
@@ -45,7 +45,7 @@ returns-in-None-clause-some g c = λ keyed.
     none_takes (state_of c.args.session.now) c.args.bytes.now (outcome step.result.taken (event_shown step.result.event) step.new.self.state) c.nothing.result.taken exact c.in-None.ensures.exact keyed
 
 pub perform-answered-requires : goal.perform-answered-requires
-perform-answered-requires g c = (search rules, (c.in-Some.ensures.key, asks_flags (event_shown c.take-step.result.event) (keyed_shown c.in-Some.keyed) c.in-Some.ensures.exact c.take-step.ensures.flags))
+perform-answered-requires g c = (assumption, (c.in-Some.ensures.key, asks_flags (event_shown c.take-step.result.event) (keyed_shown c.in-Some.keyed) c.in-Some.ensures.exact c.take-step.ensures.flags))
 
 pub returns-in-Some-clause-most : goal.returns-in-Some-clause-most
 returns-in-Some-clause-most g c = lane_few (said_shown c.perform-answered.result) c.args.room.now _ _ c.settle.result c.perform-answered.ensures.fits c.settle.ensures.settles.done_is

@@ -28,3 +28,6 @@ returns-clause-does g c =
 
 pub answered-requires-clause-within : goal.answered-requires-clause-within
 answered-requires-clause-within g c = subst IsSaidWithin (sym c.to_delete.ensures) (delete_within c.args.request.flags.now c.meta_delete-reply.result)
+
+pub meta_delete-reply-requires : goal.meta_delete-reply-requires
+meta_delete-reply-requires g c = assumption

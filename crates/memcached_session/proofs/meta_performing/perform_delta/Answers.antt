@@ -30,3 +30,6 @@ returns-clause-does g c =
         outcome_is = c.answered.ensures.outcome ∙ c.outcome_of_item-outcome.ensures.value;
       };
     }
+
+pub meta_arithmetic-done-requires : goal.meta_arithmetic-done-requires
+meta_arithmetic-done-requires g c = assumption

@@ -38,3 +38,6 @@ answered-requires-clause-within g c =
     let a = c.args in
     let t = c.meta_get-done in
     subst IsSaidWithin (sym c.to_get.ensures) (get_within a.turn.moment a.request.flags.now c.meta_get_in-asked.result (option_map kept_shown t.result.item) t.result.reply (item_short t.result.item t.ensures.within))
+
+pub meta_get-done-requires : goal.meta_get-done-requires
+meta_get-done-requires g c = assumption

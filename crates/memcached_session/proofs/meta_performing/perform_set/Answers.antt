@@ -36,3 +36,6 @@ returns-clause-does g c =
 
 pub answered-requires-clause-within : goal.answered-requires-clause-within
 answered-requires-clause-within g c = subst IsSaidWithin (sym c.to_set.ensures) (set_within c.args.cas c.args.request.flags.now c.meta_set-reply.result)
+
+pub meta_set-reply-requires : goal.meta_set-reply-requires
+meta_set-reply-requires g c = assumption

@@ -16,3 +16,6 @@ returns-clause-does g c =
           subst (λ (e : Option ℕ). DoesAndGives g.row.PAGE d.honest d.failures d.held a.key.now a.turn (touch_plan e) a.lane.now t.result.item t.result.reply t.new.lane) c.expires_at-expires.ensures t.ensures.does;
       said_is = c.to_item.ensures.said;
     }
+
+pub get_and_touch-touched-requires : goal.get_and_touch-touched-requires
+get_and_touch-touched-requires g c = assumption

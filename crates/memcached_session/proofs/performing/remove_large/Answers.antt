@@ -9,3 +9,6 @@ use Rattle.memcached_session.proofs.performing.remove_large.Goals as goal
 
 pub returns-clause-fits : goal.returns-clause-fits
 returns-clause-fits g c = subst IsLaneAnswer (sym c.unless_quiet.ensures) (quiet_fits c.args.noreply (reply_line replies.TooLarge) outcomes.TooLarge (lit≤ tt) refl)
+
+pub remove-requires : goal.remove-requires
+remove-requires g c = assumption

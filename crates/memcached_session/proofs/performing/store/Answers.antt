@@ -18,3 +18,9 @@ returns-in-Some g c =
     (subst
     (λ (k : Kept). StoresBy (frame_of g.row.PAGE d.honest d.failures d.held a.turn a.cas) a.request.key.now k (Some c.in-Some.condition) a.lane.now s.result s.new.lane)
     c.item_of-item.ensures s.ensures)
+
+pub set-requires : goal.set-requires
+set-requires g c = assumption
+
+pub store_if-requires : goal.store_if-requires
+store_if-requires g c = assumption

@@ -12,3 +12,6 @@ returns g c =
       does_it =
           subst (λ (e : Option ℕ). Does g.row.PAGE d.honest d.failures d.held a.key.now a.turn (touch_plan e) a.lane.now c.touch.result c.touch.new.lane) c.expires_at-expires.ensures c.touch.ensures;
     }
+
+pub touch-requires : goal.touch-requires
+touch-requires g c = assumption

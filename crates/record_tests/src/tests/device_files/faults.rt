@@ -14,17 +14,22 @@ fn read_fails(device: &mut Pages, page: u32) -> bool
     page < device.pages() && device.read(page, &mut bytes).is_err()
 }
 
+/// Whether page 0 is read and pages 1 and 2 fail, and page 1 is read once it is written again, and page 2 fails still.
+fn fails_past_the_end(device: &mut Pages) -> bool {
+    reads(device, 0, 3)
+        && read_fails(device, 1)
+        && read_fails(device, 2)
+        && writes(device, 1, 6)
+        && reads(device, 1, 6)
+        && read_fails(device, 2)
+}
+
 #[test]
 fn a_page_past_the_end_of_the_file_is_a_fault(rt: HostRuntime) -> Result<(), Fail> {
     let _ = fs::remove_file(&rt, "cut.pages");
     let mut device = Pages::open(&rt, "cut.pages", 4)?;
     assert!(rt; writes(&mut device, 0, 3) && writes(&mut device, 1, 4));
     assert!(rt; is_cut(&rt, "cut.pages", 511));
-    assert!(rt;
-        reads(&mut device, 0, 3) && read_fails(&mut device, 1) && read_fails(&mut device, 2)
-    );
-    assert!(rt;
-        writes(&mut device, 1, 6) && reads(&mut device, 1, 6) && read_fails(&mut device, 2)
-    );
+    assert!(rt; fails_past_the_end(&mut device));
     Ok(fs::remove_file(&rt, "cut.pages")?)
 }

@@ -7,29 +7,25 @@ use record_pages::{
 use std::alloc::Global;
 use std::test::Fail;
 
-/// Why these bytes are no key, if they are none.
-fn key_fault(alloc: Global, bytes: &[u8]) -> Option<KeyFault> {
-    Key::new(alloc, bytes).err()
+/// Whether this is why these bytes are no key, or they are one.
+fn has_key_fault(alloc: Global, bytes: &[u8], fault: Option<KeyFault>) -> bool {
+    Key::new(alloc, bytes).err() == fault
 }
 
-/// Why these bytes are no value, if they are none.
-fn value_fault(alloc: Global, bytes: &[u8]) -> Option<ValueFault> {
-    Value::new(alloc, bytes).err()
+/// Whether this is why these bytes are no value, or they are one.
+fn has_value_fault(alloc: Global, bytes: &[u8], fault: Option<ValueFault>) -> bool {
+    Value::new(alloc, bytes).err() == fault
 }
 
 #[test]
 fn keys_and_values_have_their_limits(rt: HostRuntime) {
     let alloc = rt.alloc();
-    assert_eq!(rt; key_fault(alloc, &[]), Some(KeyFault::KeyEmpty));
-    assert_eq!(rt; key_fault(alloc, &[0x61; 255]), None);
-    assert_eq!(rt; key_fault(alloc, &[0x61; 256]), Some(KeyFault::KeyTooLong));
-    assert_eq!(rt; value_fault(alloc, &[0x78; 2048]), None);
-    assert_eq!(rt;
-        value_fault(alloc, &[0x78; 2049]),
-        Some(ValueFault::ValueTooLong)
-    );
-    assert!(rt; Prediction::new(7).is_some());
-    assert!(rt; Prediction::new(8).is_none());
+    assert!(rt; has_key_fault(alloc, &[], Some(KeyFault::KeyEmpty)));
+    assert!(rt; has_key_fault(alloc, &[0x61; 255], None));
+    assert!(rt; has_key_fault(alloc, &[0x61; 256], Some(KeyFault::KeyTooLong)));
+    assert!(rt; has_value_fault(alloc, &[0x78; 2048], None));
+    assert!(rt; has_value_fault(alloc, &[0x78; 2049], Some(ValueFault::ValueTooLong)));
+    assert!(rt; Prediction::new(7).is_some() && Prediction::new(8).is_none());
 }
 
 /// Whether the object of key `a` and a value of this many bytes is too large for a page of 256 bytes.
@@ -63,13 +59,21 @@ fn a_record_may_fill_its_page(rt: HostRuntime) -> Result<(), Fail> {
     Ok(())
 }
 
+/// Whether copies of a record's key and value, and of the record that is lent, are as they are.
+fn is_copied(alloc: Global) -> Result<bool, Fail> {
+    let made = record(alloc, ROW)?;
+    Ok(
+        made.key.try_clone()? == made.key
+            && made.value.try_clone()? == made.value
+            && made.lent().to_record(alloc)? == made
+            && made.size() == 15
+            && made.lent().size() == 15,
+    )
+}
+
 #[test]
 fn copies_are_alike(rt: HostRuntime) -> Result<(), Fail> {
-    let made = record(rt.alloc(), ROW)?;
-    assert!(rt; made.key.try_clone()? == made.key);
-    assert!(rt; made.value.try_clone()? == made.value);
-    assert!(rt; made.lent().to_record(rt.alloc())? == made);
-    assert!(rt; made.size() == 15 && made.lent().size() == 15);
+    assert!(rt; is_copied(rt.alloc())?);
     Ok(())
 }
 

@@ -7,32 +7,31 @@ use record_pages::{
 use std::alloc::Global;
 use std::test::Fail;
 
-/// Whether these records, as set page 3 of write 1, are this page, written at once and by a writer.
-fn is_set_text(records: &[Record], text: &[u8; 256]) -> bool {
-    if !fits::<256>(records) {
-        return false;
+/// Whether the one record, as set page 3 of write 1, is the worked set page, written at once.
+fn is_set_text(alloc: Global) -> Result<bool, Fail> {
+    let records = [lasting_record(alloc, ROW)?];
+    if !fits::<256>(&records) {
+        return Ok(false);
     }
     let mut page = [0xff; 256];
-    encode_set_page(3, 1, records, &mut page);
-    page == *text
+    encode_set_page(3, 1, &records, &mut page);
+    Ok(page == page_of::<256>(&SET_ROW))
 }
 
-/// Whether these records, as page 0 of segment 0, are this page.
-fn is_log_text(records: &[Record], text: &[u8; 256]) -> bool {
-    if records.len() > MAX_LOG_RECORDS || !fits::<256>(records) {
-        return false;
+/// Whether the one record, as page 0 of segment 0, is the worked log page.
+fn is_log_text(alloc: Global) -> Result<bool, Fail> {
+    let records = [record(alloc, ROW)?];
+    if records.len() > MAX_LOG_RECORDS || !fits::<256>(&records) {
+        return Ok(false);
     }
     let mut page = [0xff; 256];
-    encode_log_page(0, 0, records, &mut page);
-    page == *text
+    encode_log_page(0, 0, &records, &mut page);
+    Ok(page == page_of::<256>(&LOG_ROW))
 }
 
 #[test]
 fn one_record_is_written(rt: HostRuntime) -> Result<(), Fail> {
-    let records = vec![in rt.alloc(); lasting_record(rt.alloc(), ROW)?]?;
-    assert!(rt; is_set_text(&records, &page_of::<256>(&SET_ROW)));
-    let records = vec![in rt.alloc(); record(rt.alloc(), ROW)?]?;
-    assert!(rt; is_log_text(&records, &page_of::<256>(&LOG_ROW)));
+    assert!(rt; is_set_text(rt.alloc())? && is_log_text(rt.alloc())?);
     Ok(())
 }
 
@@ -186,8 +185,7 @@ fn the_first_record_of_a_key_is_found(rt: HostRuntime) -> Result<(), Fail> {
         rt.alloc(),
         &[(b"ab", b"1", 6), (b"cd", b"2", 6), (b"cd", b"3", 6)],
     )?;
-    assert_eq!(rt; writer.len(), 3);
-    assert!(rt; is_found(writer.records(), b"cd", 1, b"2"));
-    assert!(rt; !is_found(writer.records(), b"c", 0, b"1"));
+    let is_second = is_found(writer.records(), b"cd", 1, b"2");
+    assert!(rt; writer.len() == 3 && is_second && !is_found(writer.records(), b"c", 0, b"1"));
     Ok(())
 }

@@ -73,11 +73,8 @@ fn strayed<D: PageDevice<256>>(mut device: D, steps: &[Step]) -> Option<usize> {
 fn a_page_is_read_back_through_the_trait(rt: HostRuntime) -> Result<(), Fail> {
     let mut device = MemoryDevice::<256>::new(rt.alloc(), 2)?;
     let read = write_and_read_back(&mut device, 1, &[7; 256])?;
-    assert_eq!(rt; read, [7; 256]);
-    assert_eq!(rt;
-        strayed(device, &[Step::Read(1, 7), Step::Read(0, 0)]),
-        None
-    );
+    let kept = strayed(device, &[Step::Read(1, 7), Step::Read(0, 0)]).is_none();
+    assert!(rt; read == [7; 256] && kept);
     Ok(())
 }
 

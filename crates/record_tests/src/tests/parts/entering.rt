@@ -2,7 +2,6 @@
 use admission::{Chance, Judgement, Threshold};
 use policy_laws::PreFlash;
 use record_pages::Prediction;
-use std::test::Fail;
 
 fn admits<P: PreFlash>(policy: &P, word: u32) -> bool {
     policy.admit(word)
@@ -18,13 +17,19 @@ fn the_low_bits_of_a_word_decide(rt: HostRuntime) {
     assert!(rt; !Chance { of_65536: 0 }.admit(0));
 }
 
+/// Whether as many objects for a set, the first with this prediction, are judged so.
+fn is_judged(many: usize, number: u8, judgement: Judgement) -> bool {
+    match Prediction::new(number) {
+        Some(prediction) => Threshold { least: 2 }.judge(many, prediction) == judgement,
+        None => false,
+    }
+}
+
 #[test]
-fn many_objects_move_and_hit_ones_stay(rt: HostRuntime) -> Result<(), Fail> {
-    let entered = Prediction::new(6).ok_or("a prediction is at most 7")?;
-    let hit = Prediction::new(5).ok_or("a prediction is at most 7")?;
-    let threshold = Threshold { least: 2 };
-    assert_eq!(rt; threshold.judge(2, entered), Judgement::Move);
-    assert_eq!(rt; threshold.judge(1, hit), Judgement::Readmit);
-    assert_eq!(rt; threshold.judge(1, entered), Judgement::Drop);
-    Ok(())
+fn many_objects_move_and_hit_ones_stay(rt: HostRuntime) {
+    assert!(rt;
+        is_judged(2, 6, Judgement::Move)
+            && is_judged(1, 5, Judgement::Readmit)
+            && is_judged(1, 6, Judgement::Drop)
+    );
 }

@@ -357,7 +357,7 @@ static CASES: [Case; 6] = [
 #[test]
 fn each_step_gives_what_is_written(rt: HostRuntime) -> Result<(), Fail> {
     for case in &CASES {
-        assert_eq!(rt; run(rt.alloc(), u32::from(case.0), case.1)?, None);
+        assert!(rt; run(rt.alloc(), u32::from(case.0), case.1)?.is_none());
     }
     Ok(())
 }

@@ -202,11 +202,15 @@ fn promoted_and_fresh_items_age_no_other(rt: HostRuntime) -> Result<(), Fail> {
     Ok(())
 }
 
+/// Whether a plan of this many of the least items keeps the first of them, so many.
+fn keeps(alloc: Global, count: usize, kept: usize) -> Result<bool, Fail> {
+    let job = least(alloc, count)?;
+    let plan = Rriparoo.choose(alloc, &job)?;
+    Ok(keeps_first(&plan, kept))
+}
+
 #[test]
 fn a_plan_keeps_128_of_129_items(rt: HostRuntime) -> Result<(), Fail> {
-    let some = Rriparoo.choose(rt.alloc(), &least(rt.alloc(), 100)?)?;
-    assert!(rt; keeps_first(&some, 100));
-    let most = Rriparoo.choose(rt.alloc(), &least(rt.alloc(), 129)?)?;
-    assert!(rt; keeps_first(&most, 128));
+    assert!(rt; keeps(rt.alloc(), 100, 100)? && keeps(rt.alloc(), 129, 128)?);
     Ok(())
 }

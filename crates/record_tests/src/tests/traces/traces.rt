@@ -111,9 +111,7 @@ fn has_one_put(trace: &Trace) -> bool {
         return false;
     }
     let call = trace.history.at(0);
-    is(&call, 0, 1, 3, b"a")
-        && matches!(call.act, ActRef::Put(b"1", u64::MAX))
-        && trace.certificate.at(0) == 0
+    is(&call, 0, 1, 3, b"a") && is_put(&call.act, u64::MAX) && trace.certificate.at(0) == 0
 }
 
 /// Whether the trace is that of `ONE_PUT`, and is written in the newer form.
@@ -143,6 +141,26 @@ fn is(call: &CallRef<'_>, caller: u16, start: u64, end: u64, key: &[u8]) -> bool
     call.caller == caller && call.start == start && call.end == end && call.key == key
 }
 
+/// Whether the value `1` is put, and expires then.
+fn is_put(act: &ActRef<'_>, expires: u64) -> bool {
+    match act {
+        ActRef::Put(value, at) => {
+            *value == b"1".as_slice() && *at == expires && act.time() == expires
+        }
+        _ => false,
+    }
+}
+
+/// Whether the value `1` is hit, at this moment.
+fn is_hit(act: &ActRef<'_>, moment: u64) -> bool {
+    match act {
+        ActRef::Hit(value, at) => {
+            *value == b"1".as_slice() && *at == moment && act.time() == moment
+        }
+        _ => false,
+    }
+}
+
 /// Whether these are the calls of `EACH_KIND`, with this expiry and this moment.
 fn are_each_kind(history: &History, expires: u64, moment: u64) -> bool {
     if history.len() != 4 {
@@ -151,11 +169,9 @@ fn are_each_kind(history: &History, expires: u64, moment: u64) -> bool {
     let (put, hit) = (history.at(0), history.at(1));
     let (removed, missed) = (history.at(2), history.at(3));
     is(&put, 0, 1, 3, b"a")
-        && matches!(put.act, ActRef::Put(b"1", _))
-        && put.act.time() == expires
+        && is_put(&put.act, expires)
         && is(&hit, 258, 2, 5, b"a")
-        && matches!(hit.act, ActRef::Hit(b"1", _))
-        && hit.act.time() == moment
+        && is_hit(&hit.act, moment)
         && is(&removed, 0, 4, 6, b"bc")
         && matches!(removed.act, ActRef::Remove)
         && is(&missed, 258, 7, 256, b"bc")
@@ -181,28 +197,26 @@ fn each_kind_is_read_and_written_again(rt: HostRuntime) -> Result<(), Fail> {
             0x090a_0b0c_0d0e_0f10
         )
     );
-    assert_eq!(rt; come_back(rt.alloc(), &TIMED_KINDS)?, Some(4));
+    assert!(rt; come_back(rt.alloc(), &TIMED_KINDS, 4)?);
     Ok(())
 }
 
-/// The first length, if there is one, at which a trace that is cut there is not told to be.
-fn untold_cut(alloc: Global, whole: &[u8]) -> Option<usize> {
+/// Whether a trace that is cut at any length is told to be, and as it is has no fault.
+fn are_cuts_told(alloc: Global, whole: &[u8]) -> bool {
     for len in 0..whole.len() {
         let want = Some(TraceFault::Truncated { at: len as u64 });
         if fault_of(alloc, &whole[..len]) != want {
-            return Some(len);
+            return false;
         }
     }
-    None
+    fault_of(alloc, whole).is_none()
 }
 
 #[test]
 fn a_trace_cut_anywhere_is_truncated_there(rt: HostRuntime) {
     let alloc = rt.alloc();
-    assert_eq!(rt; untold_cut(alloc, &ONE_PUT), None);
-    assert_eq!(rt; untold_cut(alloc, &TIMED_PUT), None);
-    assert!(rt; fault_of(alloc, &ONE_PUT).is_none() && fault_of(alloc, &TIMED_PUT).is_none());
-    assert!(rt; fault_of(alloc, &EMPTY).is_none());
+    assert!(rt; are_cuts_told(alloc, &ONE_PUT) && are_cuts_told(alloc, &TIMED_PUT));
+    assert!(rt; are_cuts_told(alloc, &EMPTY));
 }
 
 /// A byte that is put at a place of `ONE_PUT`, and the fault that it gives.
@@ -254,21 +268,14 @@ fn feed_all(parts: &mut TraceReader, bytes: &[u8], size: usize) -> Result<u64, T
     Ok(parts.bytes_fed())
 }
 
-// How many bytes were fed, this many at a time, and their trace.
-fn in_pieces(alloc: Global, bytes: &[u8], size: usize) -> Result<(u64, Trace), TraceFault>
-    requires { 0 < size }
-{
-    let mut parts = TraceReader::new(alloc);
-    let fed = feed_all(&mut parts, bytes, size)?;
-    Ok((fed, parts.finish()?))
-}
-
 // Whether pieces of this size give the trace of one put.
 fn is_whole_in(alloc: Global, size: usize) -> bool
     requires { 0 < size }
 {
-    match in_pieces(alloc, &TIMED_PUT, size) {
-        Ok((fed, trace)) => fed == 48 && is_one_put(alloc, &trace),
+    let mut parts = TraceReader::new(alloc);
+    let fed = feed_all(&mut parts, &TIMED_PUT, size);
+    match parts.finish() {
+        Ok(trace) => fed == Ok(48) && is_one_put(alloc, &trace),
         Err(_) => false,
     }
 }
@@ -289,16 +296,19 @@ fn takes(parts: &mut TraceReader, piece: &[u8], fault: Option<TraceFault>) -> bo
 fn a_fault_in_pieces_stays(rt: HostRuntime) {
     let mut parts = TraceReader::new(rt.alloc());
     let trailing = Some(TraceFault::TrailingBytes { at: 12 });
-    assert!(rt; takes(&mut parts, &EMPTY, None));
-    assert!(rt; takes(&mut parts, &[0], trailing) && takes(&mut parts, &[], trailing));
-    assert_eq!(rt; parts.finish().err(), trailing);
+    let stays = takes(&mut parts, &EMPTY, None)
+        && takes(&mut parts, &[0], trailing)
+        && takes(&mut parts, &[], trailing);
+    let fault = parts.finish().err();
+    assert!(rt; stays && fault == trailing);
 }
 
 #[test]
 fn what_is_missing_is_told_at_the_end(rt: HostRuntime) {
     let mut parts = TraceReader::new(rt.alloc());
-    assert!(rt; takes(&mut parts, &ONE_PUT[..9], None));
-    assert_eq!(rt; parts.finish().err(), Some(TraceFault::Truncated { at: 9 }));
+    let is_taken = takes(&mut parts, &ONE_PUT[..9], None);
+    let fault = parts.finish().err();
+    assert!(rt; is_taken && fault == Some(TraceFault::Truncated { at: 9 }));
 }
 
 // The fault of `ONE_PUT` if at most this many bytes are read at a time, and a read fails once before a byte.
@@ -405,21 +415,24 @@ fn written(alloc: Global, trace: &Trace) -> Result<Vec<u8>, WriteTraceFault> {
     Ok(written)
 }
 
-// How many calls these bytes are a trace of, if it is written as the same bytes again.
-fn come_back(alloc: Global, bytes: &[u8]) -> Result<Option<usize>, Fail> {
+// So many large calls in bytes.
+fn large_bytes(alloc: Global, count: u32, kinds: u32) -> Result<Vec<u8>, Fail>
+    requires { 0 < kinds }
+{
+    let trace = large_calls(alloc, count, kinds)?;
+    Ok(written(alloc, &trace)?)
+}
+
+// Whether these bytes are a trace of so many calls, which is written as the same bytes again.
+fn come_back(alloc: Global, bytes: &[u8], count: usize) -> Result<bool, Fail> {
     let trace = trace_of(alloc, bytes)?;
     let again = written(alloc, &trace)?;
-    if again.as_slice() == bytes {
-        Ok(Some(trace.history.len()))
-    } else {
-        Ok(None)
-    }
+    Ok(trace.history.len() == count && again.as_slice() == bytes)
 }
 
 #[test]
 fn calls_of_each_kind_come_back(rt: HostRuntime) -> Result<(), Fail> {
-    let trace = large_calls(rt.alloc(), 4000, 4)?;
-    let written = written(rt.alloc(), &trace)?;
-    assert_eq!(rt; come_back(rt.alloc(), written.as_slice())?, Some(4000));
+    let bytes = large_bytes(rt.alloc(), 4000, 4)?;
+    assert!(rt; come_back(rt.alloc(), bytes.as_slice(), 4000)?);
     Ok(())
 }

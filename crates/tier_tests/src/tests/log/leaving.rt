@@ -136,7 +136,7 @@ fn fills_two_pages(
 }
 
 // A log of segments of two pages, on a device whose second call is refused.
-fn wide_log(alloc: Global) -> Result<Owner<Wide, 4096>, Fail> {
+fn wide_log(alloc: Global) -> Result<Box<Owner<Wide, 4096>>, Fail> {
     log(
         alloc,
         &TWO_PAGES,
@@ -146,7 +146,7 @@ fn wide_log(alloc: Global) -> Result<Owner<Wide, 4096>, Fail> {
 
 #[test]
 fn a_page_has_64_records_and_a_taking_32(rt: HostRuntime) -> Result<(), Fail> {
-    fills_two_pages(&rt, rt.alloc(), &mut wide_log(rt.alloc())?)
+    fills_two_pages(&rt, rt.alloc(), &mut *wide_log(rt.alloc())?)
 }
 
 static READMITTED_OR_LOST: &[u8] = b"

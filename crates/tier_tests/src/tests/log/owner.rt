@@ -31,14 +31,14 @@ impl<D: PageDevice<PAGE>, const PAGE: usize> Owner<D, PAGE> {
         alloc: Global,
         layout: &Layout,
         device: D,
-    ) -> Result<Option<Self>, AllocError>
+    ) -> Result<Option<Box<Self>>, AllocError>
         requires { IsPageSize PAGE }
     {
         if device.pages() < layout.sets + layout.segments * layout.segment_pages {
             return Ok(None);
         }
         let owner = Self::over(alloc, layout, device)?;
-        Ok(Some(owner))
+        Ok(Some(Box::new(alloc, owner)?))
     }
 
     // A log with no record, over a device that is large enough.

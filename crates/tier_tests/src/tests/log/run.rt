@@ -25,23 +25,23 @@ pub fn call<D: PageDevice<PAGE>, const PAGE: usize>(
 ) -> Result<(), Fail>
     requires { IsPageSize PAGE }
 {
-    match word {
-        b"append" => append(alloc, owner, step),
-        b"look" => look(alloc, owner, step, EXPIRES - 1),
-        b"look-late" => look(alloc, owner, step, EXPIRES),
-        b"strike" => {
-            owner.strike(&step.key(alloc)?);
-            Ok(())
-        }
-        b"take" => {
-            tell_taken(&take(alloc, owner)?, step);
-            Ok(())
-        }
-        other => {
-            simple(owner, other, step);
-            Ok(())
-        }
+    if is(word, b"append") {
+        return append(alloc, owner, step);
     }
+    if is(word, b"look") {
+        return look(alloc, owner, step, EXPIRES - 1);
+    }
+    if is(word, b"look-late") {
+        return look(alloc, owner, step, EXPIRES);
+    }
+    if is(word, b"strike") {
+        owner.strike(&step.key(alloc)?);
+    } else if is(word, b"take") {
+        tell_taken(&take(alloc, owner)?, step);
+    } else {
+        simple(owner, word, step);
+    }
+    Ok(())
 }
 
 // The same of the calls that take no memory.
@@ -52,22 +52,32 @@ fn simple<D: PageDevice<PAGE>, const PAGE: usize>(
 )
     requires { IsPageSize PAGE }
 {
-    match word {
-        b"locate" => locate(owner, step, EXPIRES - 1),
-        b"locate-late" => locate(owner, step, EXPIRES),
-        b"touch" => touch(owner, step),
-        b"flush" => step.tell(name_of_flush(owner.flush())),
-        b"oldest" => tell_oldest(owner.oldest(), step),
-        b"oldest-but" => oldest_but(owner, step),
-        b"readmit" => step.tell(name_of_readmitted(owner.readmit())),
-        b"count" => step.tell_number(owner.len() as u64),
-        b"drop-oldest" => step.tell(if owner.drop_oldest() {
+    if is(word, b"locate") {
+        locate(owner, step, EXPIRES - 1);
+    } else if is(word, b"locate-late") {
+        locate(owner, step, EXPIRES);
+    } else if is(word, b"touch") {
+        touch(owner, step);
+    } else if is(word, b"flush") {
+        step.tell(name_of_flush(owner.flush()));
+    } else if is(word, b"oldest") {
+        tell_oldest(owner.oldest(), step);
+    } else if is(word, b"oldest-but") {
+        oldest_but(owner, step);
+    } else if is(word, b"readmit") {
+        step.tell(name_of_readmitted(owner.readmit()));
+    } else if is(word, b"count") {
+        step.tell_number(owner.len() as u64);
+    } else if is(word, b"drop-oldest") {
+        step.tell(if owner.drop_oldest() {
             b"dropped"
         } else {
             b"none"
-        }),
-        b"free" => step.tell(if owner.free() { b"freed" } else { b"not" }),
-        _ => step.refuse(),
+        });
+    } else if is(word, b"free") {
+        step.tell(if owner.free() { b"freed" } else { b"not" });
+    } else {
+        step.refuse();
     }
 }
 

@@ -9,7 +9,7 @@ use test_devices::find_wrong_line;
 #[derive(Drop)]
 struct Played {
     refused: Refused,
-    owner: Option<Owner<Tried, 256>>,
+    owner: Option<Box<Owner<Tried, 256>>>,
     taken: Option<TakenRecords>,
 }
 
@@ -19,20 +19,17 @@ impl Scripted for Played {
     ghost can_act = { ⊤ };
 
     fn act(&mut self, alloc: Global, step: &mut Step<'_>) -> Result<(), Fail> {
-        match step.word() {
-            b"config" => self.open(alloc, step),
-            b"refuse" => {
-                self.refuse(false, step);
-                Ok(())
-            }
-            b"refuse-from" => {
-                self.refuse(true, step);
-                Ok(())
-            }
-            word => match &mut self.owner {
-                Some(owner) => call_or_hold(alloc, owner, &mut self.taken, word, step),
-                None => Err("a log".into()),
-            },
+        let word = step.word();
+        if is(word, b"config") {
+            return self.open(alloc, step);
+        }
+        if is(word, b"refuse") || is(word, b"refuse-from") {
+            self.refuse(is(word, b"refuse-from"), step);
+            return Ok(());
+        }
+        match &mut self.owner {
+            Some(owner) => call_or_hold(alloc, &mut **owner, &mut self.taken, word, step),
+            None => Err("a log".into()),
         }
     }
 }
@@ -63,24 +60,19 @@ fn call_or_hold(
     word: &[u8],
     step: &mut Step<'_>,
 ) -> Result<(), Fail> {
-    match word {
-        b"hold" => {
-            *taken = Some(records(take(alloc, owner)?)?);
-            Ok(())
+    if is(word, b"hold") {
+        *taken = Some(records(take(alloc, owner)?)?);
+    } else if is(word, b"drop-held") {
+        match taken {
+            Some(records) => owner.drop_taken(0, records),
+            None => step.refuse(),
         }
-        b"drop-held" => {
-            match taken {
-                Some(records) => owner.drop_taken(0, records),
-                None => step.refuse(),
-            }
-            Ok(())
-        }
-        b"asked" => {
-            step.tell(owner.device().asked());
-            Ok(())
-        }
-        other => call(alloc, owner, other, step),
+    } else if is(word, b"asked") {
+        step.tell(owner.device().asked());
+    } else {
+        return call(alloc, owner, word, step);
     }
+    Ok(())
 }
 
 // The records that were taken.
@@ -92,7 +84,11 @@ fn records(taken: SetTaken) -> Result<TakenRecords, &'static str> {
 }
 
 // A log over a device that refuses these calls; an opening that lacks memory is tried once more.
-fn opened(alloc: Global, config: &Config, refused: Refused) -> Result<Owner<Tried, 256>, Fail> {
+fn opened(
+    alloc: Global,
+    config: &Config,
+    refused: Refused,
+) -> Result<Box<Owner<Tried, 256>>, Fail> {
     let layout = layout(config)?;
     let pages = pages_of(config);
     let first = Owner::open(alloc, &layout, device(alloc, pages, refused)?);
@@ -142,8 +138,8 @@ const ONE_SET: Config = Config {
 
 /// Makes the calls of a text of a log over a device of which each page is read as zeros.
 pub fn play_on_blank(alloc: Global, text: &[u8]) -> Result<(), Fail> {
-    let mut owner: Owner<BlankDevice, 256> = log(alloc, &ONE_SET, BlankDevice(3))?;
-    run_text(alloc, &mut owner, text)
+    let mut owner: Box<Owner<BlankDevice, 256>> = log(alloc, &ONE_SET, BlankDevice(3))?;
+    run_text(alloc, &mut *owner, text)
 }
 
 /// A log over a device.
@@ -151,7 +147,7 @@ pub fn log<D: PageDevice<PAGE>, const PAGE: usize>(
     alloc: Global,
     config: &Config,
     device: D,
-) -> Result<Owner<D, PAGE>, Fail>
+) -> Result<Box<Owner<D, PAGE>>, Fail>
     requires { IsPageSize PAGE }
 {
     match Owner::open(alloc, &layout(config)?, device) {

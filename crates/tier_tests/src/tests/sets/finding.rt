@@ -81,13 +81,13 @@ fn hits_the_last(alloc: Global, owner: &mut Owner<Wide, 4096>) -> Result<bool, F
     Ok(is_last_alone_hit(read(alloc, owner, &key)?))
 }
 
-fn wide_sets(alloc: Global) -> Result<Owner<Wide, 4096>, Fail> {
+fn wide_sets(alloc: Global) -> Result<Box<Owner<Wide, 4096>>, Fail> {
     sets(alloc, &ONE_SET, MemoryDevice::new(alloc, 3)?)
 }
 
 #[test]
 fn the_last_of_128_slots_is_hit(rt: HostRuntime) -> Result<(), Fail> {
-    let is_hit = hits_the_last(rt.alloc(), &mut wide_sets(rt.alloc())?)?;
+    let is_hit = hits_the_last(rt.alloc(), &mut *wide_sets(rt.alloc())?)?;
     assert!(rt; is_hit);
     Ok(())
 }

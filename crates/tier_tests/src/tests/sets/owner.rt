@@ -36,7 +36,7 @@ impl<D: PageDevice<PAGE>, const PAGE: usize> Owner<D, PAGE> {
         alloc: Global,
         layout: &Layout,
         device: D,
-    ) -> Result<Option<Self>, AllocError> {
+    ) -> Result<Option<Box<Self>>, AllocError> {
         Self::open_with(alloc, layout, 8 * layout.sets, device)
     }
 
@@ -46,14 +46,14 @@ impl<D: PageDevice<PAGE>, const PAGE: usize> Owner<D, PAGE> {
         layout: &Layout,
         strikes: u32,
         device: D,
-    ) -> Result<Option<Self>, AllocError>
+    ) -> Result<Option<Box<Self>>, AllocError>
         requires { strikes ≤ 524288 }
     {
         if device.pages() < layout.sets {
             return Ok(None);
         }
         let owner = Self::over(alloc, layout, strikes, device)?;
-        Ok(Some(owner))
+        Ok(Some(Box::new(alloc, owner)?))
     }
 
     // All sets empty, over a device that is large enough.

@@ -24,26 +24,44 @@ pub fn call<D: PageDevice<PAGE>, const PAGE: usize>(
 ) -> Result<(), Fail>
     requires { IsPageSize PAGE }
 {
-    match word {
-        b"look" => look(alloc, owner, step, EXPIRES - 1),
-        b"look-late" => look(alloc, owner, step, EXPIRES),
-        b"read" => tell_read(alloc, owner, &key(alloc, b"ax")?, step),
-        b"read-of" => tell_read(alloc, owner, &step.key(alloc)?, step),
-        b"write" => write(alloc, owner, &key(alloc, b"ax")?, step),
-        b"write-of" => write(alloc, owner, &step.key(alloc)?, step),
-        b"strike" => {
-            owner.strike(&step.key(alloc)?);
-            Ok(())
-        }
-        b"forget" => {
-            owner.forget(&key(alloc, b"ax")?);
-            Ok(())
-        }
-        other => {
-            simple(owner, other, step);
-            Ok(())
-        }
+    if is(word, b"look") {
+        return look(alloc, owner, step, EXPIRES - 1);
     }
+    if is(word, b"look-late") {
+        return look(alloc, owner, step, EXPIRES);
+    }
+    if is(word, b"read") || is(word, b"write") || is(word, b"forget") {
+        return of_set(alloc, owner, &key(alloc, b"ax")?, word, step);
+    }
+    if is(word, b"read-of") || is(word, b"write-of") || is(word, b"strike") {
+        return of_set(alloc, owner, &step.key(alloc)?, word, step);
+    }
+    simple(owner, word, step);
+    Ok(())
+}
+
+// The same of the calls of the set of a key.
+fn of_set<D: PageDevice<PAGE>, const PAGE: usize>(
+    alloc: Global,
+    owner: &mut Owner<D, PAGE>,
+    key: &Key,
+    word: &[u8],
+    step: &mut Step<'_>,
+) -> Result<(), Fail>
+    requires { IsPageSize PAGE }
+{
+    if is(word, b"read") || is(word, b"read-of") {
+        return tell_read(alloc, owner, key, step);
+    }
+    if is(word, b"write") || is(word, b"write-of") {
+        return write(alloc, owner, key, step);
+    }
+    if is(word, b"strike") {
+        owner.strike(key);
+    } else {
+        owner.forget(key);
+    }
+    Ok(())
 }
 
 // The same of the calls that take no memory.
@@ -54,11 +72,14 @@ fn simple<D: PageDevice<PAGE>, const PAGE: usize>(
 )
     requires { IsPageSize PAGE }
 {
-    match word {
-        b"locate" => locate(owner, step, EXPIRES - 1),
-        b"locate-late" => locate(owner, step, EXPIRES),
-        b"touch" => touch(owner, step),
-        _ => step.refuse(),
+    if is(word, b"locate") {
+        locate(owner, step, EXPIRES - 1);
+    } else if is(word, b"locate-late") {
+        locate(owner, step, EXPIRES);
+    } else if is(word, b"touch") {
+        touch(owner, step);
+    } else {
+        step.refuse();
     }
 }
 

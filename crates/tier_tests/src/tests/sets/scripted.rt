@@ -10,7 +10,7 @@ const PAGES: u32 = 5;
 struct Played {
     refused: Refused,
     strikes: Option<u32>,
-    owner: Option<Owner<Tried, 256>>,
+    owner: Option<Box<Owner<Tried, 256>>>,
 }
 
 impl Scripted for Played {
@@ -19,24 +19,21 @@ impl Scripted for Played {
     ghost can_act = { ⊤ };
 
     fn act(&mut self, alloc: Global, step: &mut Step<'_>) -> Result<(), Fail> {
-        match step.word() {
-            b"config" => self.open(alloc, step),
-            b"refuse" => {
-                self.refuse(false, step);
-                Ok(())
-            }
-            b"refuse-from" => {
-                self.refuse(true, step);
-                Ok(())
-            }
-            b"room" => {
-                self.strikes = Some(step.small());
-                Ok(())
-            }
-            word => match &mut self.owner {
-                Some(owner) => call_or_ask(alloc, owner, word, step),
-                None => Err("sets".into()),
-            },
+        let word = step.word();
+        if is(word, b"config") {
+            return self.open(alloc, step);
+        }
+        if is(word, b"refuse") || is(word, b"refuse-from") {
+            self.refuse(is(word, b"refuse-from"), step);
+            return Ok(());
+        }
+        if is(word, b"room") {
+            self.strikes = Some(step.small());
+            return Ok(());
+        }
+        match &mut self.owner {
+            Some(owner) => call_or_ask(alloc, &mut **owner, word, step),
+            None => Err("sets".into()),
         }
     }
 }
@@ -68,7 +65,7 @@ fn call_or_ask(
     word: &[u8],
     step: &mut Step<'_>,
 ) -> Result<(), Fail> {
-    if word == b"asked".as_slice() {
+    if is(word, b"asked") {
         step.tell(owner.device().asked());
         return Ok(());
     }
@@ -81,7 +78,7 @@ fn opened(
     layout: &Layout,
     strikes: u32,
     refused: Refused,
-) -> Result<Owner<Tried, 256>, Fail> {
+) -> Result<Box<Owner<Tried, 256>>, Fail> {
     if strikes > 524288 {
         return Err("room for so many strikes".into());
     }
@@ -108,8 +105,8 @@ pub fn play(alloc: Global, text: &[u8]) -> Result<(), Fail> {
 
 /// Makes the calls of a text of one set over a device of which each page is read as zeros.
 pub fn play_on_blank(alloc: Global, text: &[u8]) -> Result<(), Fail> {
-    let mut owner: Owner<BlankDevice, 256> = sets(alloc, &ONE_SET, BlankDevice(1))?;
-    run_text(alloc, &mut owner, text)
+    let mut owner: Box<Owner<BlankDevice, 256>> = sets(alloc, &ONE_SET, BlankDevice(1))?;
+    run_text(alloc, &mut *owner, text)
 }
 
 /// Sets over a device.
@@ -117,7 +114,7 @@ pub fn sets<D: PageDevice<PAGE>, const PAGE: usize>(
     alloc: Global,
     config: &Config,
     device: D,
-) -> Result<Owner<D, PAGE>, Fail> {
+) -> Result<Box<Owner<D, PAGE>>, Fail> {
     match Owner::open(alloc, &layout(config)?, device) {
         Ok(Some(owner)) => Ok(owner),
         Ok(None) => Err("a device that is large enough".into()),

@@ -13,37 +13,32 @@ pub fn call<D: PageDevice<PAGE>, const PAGE: usize>(
     word: &[u8],
     step: &mut Step<'_>,
 ) -> Result<(), Fail> {
-    match word {
-        b"put" => put(alloc, store, step),
-        b"put-back" => put_back(alloc, store, step),
-        b"get" => get(alloc, store, step, EXPIRES - 1),
-        b"get-late" => get(alloc, store, step, EXPIRES),
-        b"remove" => {
-            store.remove(&step.key(alloc)?);
-            Ok(())
-        }
-        b"forget" => {
-            store.forget(&step.key(alloc)?);
-            Ok(())
-        }
-        b"move" => {
-            step.tell(name_of_move(moved(store)?));
-            Ok(())
-        }
-        b"begin" => {
-            tell_begun(&begun(store)?, step);
-            Ok(())
-        }
-        b"begin-many" => {
-            tell_count(&begun(store)?, step);
-            Ok(())
-        }
-        b"commit" => commit(alloc, store, step),
-        other => {
-            simple(store, other, step);
-            Ok(())
-        }
+    if is(word, b"put") {
+        return put(alloc, store, step);
     }
+    if is(word, b"put-back") {
+        return put_back(alloc, store, step);
+    }
+    if is(word, b"get") {
+        return get(alloc, store, step, EXPIRES - 1);
+    }
+    if is(word, b"get-late") {
+        return get(alloc, store, step, EXPIRES);
+    }
+    if is(word, b"commit") {
+        return commit(alloc, store, step);
+    }
+    if is(word, b"remove") || is(word, b"forget") {
+        return remove(alloc, store, word, step);
+    }
+    if is(word, b"move") {
+        return move_whole(store, step);
+    }
+    if is(word, b"begin") || is(word, b"begin-many") {
+        return begin(store, word, step);
+    }
+    simple(store, word, step);
+    Ok(())
 }
 
 // The same of the calls that take no memory.
@@ -52,16 +47,19 @@ fn simple<D: PageDevice<PAGE>, const PAGE: usize>(
     word: &[u8],
     step: &mut Step<'_>,
 ) {
-    match word {
-        b"get-into" => get_into(store, step, EXPIRES - 1),
-        b"get-into-late" => get_into(store, step, EXPIRES),
-        b"remove-bytes" => store.remove_bytes(step.bytes().as_slice()),
-        b"flush" => step.tell(name_of_flush(store.flush_step())),
-        b"abort" => {
-            let number = step.number();
-            step.tell(name_of_abort(store.move_abort(number)));
-        }
-        _ => step.refuse(),
+    if is(word, b"get-into") {
+        get_into(store, step, EXPIRES - 1);
+    } else if is(word, b"get-into-late") {
+        get_into(store, step, EXPIRES);
+    } else if is(word, b"remove-bytes") {
+        store.remove_bytes(step.bytes().as_slice());
+    } else if is(word, b"flush") {
+        step.tell(name_of_flush(store.flush_step()));
+    } else if is(word, b"abort") {
+        let number = step.number();
+        step.tell(name_of_abort(store.move_abort(number)));
+    } else {
+        step.refuse();
     }
 }
 
@@ -156,22 +154,51 @@ fn get_into<D: PageDevice<PAGE>, const PAGE: usize>(
     }
 }
 
-fn moved<D: PageDevice<PAGE>, const PAGE: usize>(
+// Removes a key, or forgets it.
+fn remove<D: PageDevice<PAGE>, const PAGE: usize>(
+    alloc: Global,
     store: &mut Store<D, PAGE>,
-) -> Result<MovedWhole, Fail> {
-    match store.move_whole(&Rriparoo) {
-        Ok(moved) => Ok(moved),
-        Err(_) => Ok(store.move_whole(&Rriparoo)?),
+    word: &[u8],
+    step: &mut Step<'_>,
+) -> Result<(), Fail> {
+    let key = step.key(alloc)?;
+    if is(word, b"remove") {
+        store.remove(&key);
+    } else {
+        store.forget(&key);
     }
+    Ok(())
 }
 
-fn begun<D: PageDevice<PAGE>, const PAGE: usize>(
+// Makes a whole move, and tells what it did.
+fn move_whole<D: PageDevice<PAGE>, const PAGE: usize>(
     store: &mut Store<D, PAGE>,
-) -> Result<Begin, Fail> {
-    match store.move_begin() {
-        Ok(begun) => Ok(begun),
-        Err(_) => Ok(store.move_begin()?),
+    step: &mut Step<'_>,
+) -> Result<(), Fail> {
+    let moved = match store.move_whole(&Rriparoo) {
+        Ok(moved) => moved,
+        Err(_) => store.move_whole(&Rriparoo)?,
+    };
+    step.tell(name_of_move(moved));
+    Ok(())
+}
+
+// Begins a move, and tells how it began, with the items of its job or how many there are.
+fn begin<D: PageDevice<PAGE>, const PAGE: usize>(
+    store: &mut Store<D, PAGE>,
+    word: &[u8],
+    step: &mut Step<'_>,
+) -> Result<(), Fail> {
+    let begun = match store.move_begin() {
+        Ok(begun) => begun,
+        Err(_) => store.move_begin()?,
+    };
+    if is(word, b"begin") {
+        tell_begun(&begun, step);
+    } else {
+        tell_count(&begun, step);
     }
+    Ok(())
 }
 
 // Ends the move of a number by a plan that keeps the items behind it, each with the prediction that a record enters with, and tells

@@ -1,4 +1,5 @@
 //! The store of a test's text, and the device below it.
+use super::opening::boxed;
 use super::run::call;
 use super::*;
 use test_devices::{AskedDevice, Scripted, run_text};
@@ -14,7 +15,7 @@ struct Played {
     writes: u32,
     /// The number of the device's call that is refused, from 1, or 0.
     refused: u32,
-    store: Option<Store<Tried, 256>>,
+    store: Option<Box<Store<Tried, 256>>>,
 }
 
 impl Scripted for Played {
@@ -23,50 +24,54 @@ impl Scripted for Played {
     ghost can_act = { ⊤ };
 
     fn act(&mut self, alloc: Global, step: &mut Step<'_>) -> Result<(), Fail> {
-        match step.word() {
-            b"config" => self.open(alloc, step),
-            b"again" => self.open_again(alloc),
-            b"stale" => {
-                self.stale = step.small();
-                self.writes = step.small();
-                Ok(())
-            }
-            b"refuse" => {
-                self.refused = step.small();
-                Ok(())
-            }
-            b"asked" => {
-                self.tell_asked(step);
-                Ok(())
-            }
-            word => self.call(alloc, word, step),
+        let word = step.word();
+        if is(word, b"config") {
+            return self.open(alloc, step);
         }
+        if is(word, b"again") {
+            return self.open_again(alloc);
+        }
+        if is(word, b"stale") {
+            self.stale = step.small();
+            self.writes = step.small();
+        } else if is(word, b"refuse") {
+            self.refused = step.small();
+        } else {
+            return self.call(alloc, word, step);
+        }
+        Ok(())
     }
 }
 
 impl Played {
-    // Makes a call of the store.
+    // Makes a call of the store, or tells what the calls since the opening asked of the device, in this order.
     fn call(&mut self, alloc: Global, word: &[u8], step: &mut Step<'_>) -> Result<(), Fail> {
-        match &mut self.store {
-            Some(store) => call(alloc, store, word, step),
-            None => {
-                step.refuse();
-                Ok(())
-            }
+        let Some(store) = &mut self.store else {
+            step.refuse();
+            return Ok(());
+        };
+        if is(word, b"asked") {
+            step.tell(store.device().asked());
+            return Ok(());
         }
+        call(alloc, &mut **store, word, step)
     }
 
     // Opens an empty store of the configuration of a step, over a device of zeros with just the pages that it needs.
     fn open(&mut self, alloc: Global, step: &mut Step<'_>) -> Result<(), Fail> {
         self.config = config_of(step);
-        let device = self.device(alloc)?;
-        self.store = match Store::open(alloc, &self.config, device) {
+        self.store = match self.opened(alloc) {
             Ok(store) => Some(store),
-            Err(_) => Some(Store::open(alloc, &self.config, self.device(alloc)?)?),
+            Err(_) => Some(self.opened(alloc)?),
         };
         self.stale = u32::MAX;
         self.refused = 0;
         Ok(())
+    }
+
+    // An empty store of the configuration.
+    fn opened(&self, alloc: Global) -> Result<Box<Store<Tried, 256>>, OpenFault> {
+        boxed(alloc, &self.config, self.device(alloc)?)
     }
 
     // Opens another empty store over the device of the one that is open.
@@ -74,7 +79,8 @@ impl Played {
         let Some(store) = self.store.take() else {
             return Err("a store".into());
         };
-        self.store = Some(Store::open(alloc, &self.config, store.into_device())?);
+        let device = Box::into_inner(store).into_device();
+        self.store = Some(boxed(alloc, &self.config, device)?);
         Ok(())
     }
 
@@ -83,14 +89,6 @@ impl Played {
         let pages = pages_of(&self.config);
         let stale = StaleDevice::new(alloc, pages, self.stale, self.writes)?;
         Ok(AskedDevice::new(FuseDevice::one(stale, self.refused)))
-    }
-
-    // Tells what the calls since the opening asked of the device, in this order.
-    fn tell_asked(&mut self, step: &mut Step<'_>) {
-        match &self.store {
-            Some(store) => step.tell(store.device().asked()),
-            None => step.refuse(),
-        }
     }
 }
 

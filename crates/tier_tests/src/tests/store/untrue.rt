@@ -1,5 +1,6 @@
 //! Ten thousand pages that are not what was written, handed to a store: what memory tells stays true, and no call ends otherwise
 //! than it says.
+use super::opening::boxed;
 use super::untrue_device::UntrueDevice;
 use super::*;
 use rand_core::utils::NextWord;
@@ -96,20 +97,35 @@ fn calls(
     if well { Ok(Some(seen)) } else { Ok(None) }
 }
 
-#[test]
-fn pages_that_were_never_written_end_no_call(rt: HostRuntime) -> Result<(), Fail> {
-    let alloc = rt.alloc();
-    let untrue = AtomicU32::new(0);
-    let device = UntrueDevice::new(MemoryDevice::new(alloc, 5)?, &untrue);
-    let mut store = Store::open(alloc, &SMALL, device)?;
+// A store over pages that count what is not as it was written.
+fn opened<'a>(alloc: Global, untrue: &'a AtomicU32) -> Result<Box<Untrue<'a>>, Fail> {
+    let device = UntrueDevice::new(MemoryDevice::new(alloc, 5)?, untrue);
+    Ok(boxed(alloc, &SMALL, device)?)
+}
+
+// What 400,000 calls of a store see.
+fn seen_in_calls(alloc: Global, store: &mut Untrue<'_>) -> Result<Seen, Fail> {
     let mut words = Lcg64Xsh32::new(1, 1);
     let mut seen = Seen {
         hits: 0,
         damaged: 0,
     };
     for number in 0..400_000u32 {
-        seen = calls(alloc, &mut store, &mut words, number, seen)?.ok_or("an answer")?;
+        seen = calls(alloc, store, &mut words, number, seen)?.ok_or("an answer")?;
     }
+    Ok(seen)
+}
+
+// The same of a store over such pages.
+fn seen_over(alloc: Global, untrue: &AtomicU32) -> Result<Seen, Fail> {
+    let mut store = opened(alloc, untrue)?;
+    seen_in_calls(alloc, &mut *store)
+}
+
+#[test]
+fn pages_that_were_never_written_end_no_call(rt: HostRuntime) -> Result<(), Fail> {
+    let untrue = AtomicU32::new(0);
+    let seen = seen_over(rt.alloc(), &untrue)?;
     assert!(rt; untrue.load(Ordering::SeqCst) >= 10_000);
     assert!(rt; seen.hits > 1_000 && seen.damaged > 1_000);
     Ok(())

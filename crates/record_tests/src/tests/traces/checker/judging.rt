@@ -3,7 +3,6 @@ use certificate_checker::{JudgeFault, Judged, judge};
 use std::alloc::Global;
 use std::io;
 use std::io::{Error, ErrorKind, Read, Write};
-use std::test::Fail;
 
 /// The trace of one put, by caller 0 from 1 to 3, of the value `1` at the key `a`.
 static ONE_PUT: [u8; 40] =
@@ -52,105 +51,125 @@ impl Write for Broken {
     }
 }
 
-/// What is written of an input that is read a byte at a time, and what it is judged to be.
-fn judged(alloc: Global, input: &[u8], fails: bool) -> Result<(Vec<u8>, Judged), Fail> {
+/// Whether an input that is read a byte at a time gets this line, and is judged so.
+fn is_judged(alloc: Global, input: &[u8], fails: bool, line: &[u8], kind: Judged) -> bool {
     let mut reader = Slow { rest: input, fails };
     let mut out: Vec<u8> = Vec::new(alloc);
-    let kind = judge::<Slow, Vec<u8>>(alloc, &mut reader, &mut out)?;
-    Ok((out, kind))
+    judge::<Slow, Vec<u8>>(alloc, &mut reader, &mut out) == Ok(kind) && out.as_slice() == line
 }
 
-/// The trace of one put, with other bytes at an offset.
-fn changed(at: usize, bytes: [u8; 2]) -> [u8; 40] {
+/// A trace, and the line and the judgement that it gets.
+#[derive(Clone, Copy)]
+struct Row(&'static [u8], &'static [u8], Judged);
+
+static ROWS: [Row; 9] = [
+    Row(
+        b"KGTRACE1\x00\x00\x00\x00",
+        b"accepted 0 calls\n",
+        Judged::Accepted,
+    ),
+    Row(b"", b"bad trace Truncated at 0\n", Judged::BadTrace),
+    Row(b"K\x00", b"bad trace Truncated at 2\n", Judged::BadTrace),
+    Row(
+        b"KGTRACE1\x00",
+        b"bad trace Truncated at 9\n",
+        Judged::BadTrace,
+    ),
+    Row(
+        b"KGTRACE9\x00\x00\x00\x00",
+        b"bad trace BadMagic at 7\n",
+        Judged::BadTrace,
+    ),
+    Row(
+        b"KGTRACE1\x10\x00\x00\x01",
+        b"bad trace TooMany at 8\n",
+        Judged::BadTrace,
+    ),
+    Row(
+        b"KGTRACE1\x10\x00\x00\x00",
+        b"bad trace Truncated at 12\n",
+        Judged::BadTrace,
+    ),
+    Row(
+        b"KGTRACE1\x00\x00\x00\x01\x05",
+        b"bad trace BadKind at 12\n",
+        Judged::BadTrace,
+    ),
+    Row(
+        b"KGTRACE1\x00\x00\x00\x00\x00",
+        b"bad trace TrailingBytes at 12\n",
+        Judged::BadTrace,
+    ),
+];
+
+/// Two bytes that are put at an offset of the trace of one put, and the line and the judgement that it gets then.
+#[derive(Clone, Copy)]
+struct Changed(usize, [u8; 2], &'static [u8], Judged);
+
+static CHANGED: [Changed; 4] = [
+    Changed(
+        38,
+        [0, 1],
+        b"rejected NotAPlace place 0\n",
+        Judged::Rejected,
+    ),
+    Changed(
+        29,
+        [0, 0],
+        b"rejected BadInterval position 0\n",
+        Judged::Rejected,
+    ),
+    Changed(31, [0, b'a'], b"bad trace BadKey at 31\n", Judged::BadTrace),
+    Changed(33, [8, 1], b"bad trace BadValue at 33\n", Judged::BadTrace),
+];
+
+/// Whether the changed trace gets its line.
+fn is_told(alloc: Global, changed: &Changed) -> bool {
     let mut trace = ONE_PUT;
-    for (byte, new) in trace.iter_mut().skip(at).zip(&bytes) {
+    for (byte, new) in trace.iter_mut().skip(changed.0).zip(&changed.1) {
         *byte = *new;
     }
-    trace
+    is_judged(alloc, &trace, false, changed.2, changed.3)
 }
 
 #[test]
-fn each_trace_has_its_line(rt: HostRuntime) -> Result<(), Fail> {
-    let table: [(&[u8], &[u8], Judged); 15] = [
-        (&ONE_PUT, b"accepted 1 calls\n", Judged::Accepted),
-        (&TIMED_PUT, b"accepted 1 calls\n", Judged::Accepted),
-        (
-            b"KGTRACE1\x00\x00\x00\x00",
-            b"accepted 0 calls\n",
-            Judged::Accepted,
-        ),
-        (
-            &changed(38, [0, 1]),
-            b"rejected NotAPlace place 0\n",
-            Judged::Rejected,
-        ),
-        (
-            &changed(29, [0, 0]),
-            b"rejected BadInterval position 0\n",
-            Judged::Rejected,
-        ),
-        (b"", b"bad trace Truncated at 0\n", Judged::BadTrace),
-        (b"K\x00", b"bad trace Truncated at 2\n", Judged::BadTrace),
-        (
-            b"KGTRACE1\x00",
-            b"bad trace Truncated at 9\n",
-            Judged::BadTrace,
-        ),
-        (
-            b"KGTRACE9\x00\x00\x00\x00",
-            b"bad trace BadMagic at 7\n",
-            Judged::BadTrace,
-        ),
-        (
-            b"KGTRACE1\x10\x00\x00\x01",
-            b"bad trace TooMany at 8\n",
-            Judged::BadTrace,
-        ),
-        (
-            b"KGTRACE1\x10\x00\x00\x00",
-            b"bad trace Truncated at 12\n",
-            Judged::BadTrace,
-        ),
-        (
-            b"KGTRACE1\x00\x00\x00\x01\x05",
-            b"bad trace BadKind at 12\n",
-            Judged::BadTrace,
-        ),
-        (
-            &changed(31, [0, b'a']),
-            b"bad trace BadKey at 31\n",
-            Judged::BadTrace,
-        ),
-        (
-            &changed(33, [8, 1]),
-            b"bad trace BadValue at 33\n",
-            Judged::BadTrace,
-        ),
-        (
-            b"KGTRACE1\x00\x00\x00\x00\x00",
-            b"bad trace TrailingBytes at 12\n",
-            Judged::BadTrace,
-        ),
-    ];
-    for (input, line, kind) in table {
-        let (out, judgement) = judged(rt.alloc(), input, false)?;
-        assert_eq!(rt; out.as_slice(), line);
-        assert_eq!(rt; judgement, kind);
+fn each_trace_has_its_line(rt: HostRuntime) {
+    let line = b"accepted 1 calls\n";
+    assert!(rt;
+        is_judged(rt.alloc(), &ONE_PUT, false, line, Judged::Accepted)
+            && is_judged(rt.alloc(), &TIMED_PUT, false, line, Judged::Accepted)
+    );
+    for number in 0..ROWS.len() {
+        let row = ROWS[number];
+        assert!(rt;
+            is_judged(rt.alloc(), row.0, false, row.1, row.2),
+            "row {number}"
+        );
     }
-    Ok(())
+    for number in 0..CHANGED.len() {
+        assert!(rt; is_told(rt.alloc(), &CHANGED[number]), "change {number}");
+    }
+}
+
+/// Whether the trace of one put is given up if its line can't be written.
+fn is_given_up(alloc: Global) -> bool {
+    let mut reader = ONE_PUT.as_slice();
+    judge::<&[u8], Broken>(alloc, &mut reader, &mut Broken) == Err(JudgeFault::WriteFault)
 }
 
 #[test]
-fn readers_and_writers_may_fail(rt: HostRuntime) -> Result<(), Fail> {
+fn readers_and_writers_may_fail(rt: HostRuntime) {
     let alloc = rt.alloc();
-    let (out, kind) = judged(alloc, b"", true)?;
-    assert_eq!(rt; out.as_slice(), b"bad trace ReadFault at 0\n".as_slice());
-    assert_eq!(rt; kind, Judged::BadTrace);
-    let (out, kind) = judged(alloc, &ONE_PUT[..20], true)?;
-    assert_eq!(rt; out.as_slice(), b"bad trace ReadFault at 20\n".as_slice());
-    assert_eq!(rt; kind, Judged::BadTrace);
-    let mut reader = ONE_PUT.as_slice();
-    let given_up = judge::<&[u8], Broken>(alloc, &mut reader, &mut Broken);
-    assert_eq!(rt; given_up, Err(JudgeFault::WriteFault));
-    Ok(())
+    let kind = Judged::BadTrace;
+    assert!(rt;
+        is_judged(alloc, b"", true, b"bad trace ReadFault at 0\n", kind)
+            && is_judged(
+                alloc,
+                &ONE_PUT[..20],
+                true,
+                b"bad trace ReadFault at 20\n",
+                kind
+            )
+    );
+    assert!(rt; is_given_up(alloc));
 }

@@ -1,6 +1,6 @@
 // How often a reader and a writer are called and with what, and that memory is taken by what was read:
 // no clause says it.
-use super::{large_calls, written};
+use super::{large_bytes, large_calls};
 use std::alloc::Global;
 use std::io;
 use std::io::{Error, ErrorKind, Read, Write};
@@ -119,9 +119,8 @@ fn is_read(alloc: Global, long: &[u8], row: &Reads) -> bool {
 fn a_piece_is_read_at_a_time_and_no_read_follows_a_failed_one_or_a_fault(
     rt: HostRuntime,
 ) -> Result<(), Fail> {
-    let trace = large_calls(rt.alloc(), CALLS, 1)?;
-    let long = written(rt.alloc(), &trace)?;
-    assert_eq!(rt; long.len(), LONG);
+    let long = large_bytes(rt.alloc(), CALLS, 1)?;
+    assert!(rt; long.len() == LONG);
     for number in 0..READS.len() {
         assert!(rt; is_read(rt.alloc(), &long, &READS[number]), "row {number}");
     }
@@ -169,6 +168,18 @@ fn writes_are_few_none_follows_a_failed_one_and_nothing_is_flushed(
     Ok(())
 }
 
+// A reader that was fed a header which counts calls.
+fn awaiting(alloc: Global) -> Result<TraceReader, TraceFault> {
+    let mut parts = TraceReader::new(alloc);
+    parts.feed(&MOST)?;
+    Ok(parts)
+}
+
+// Whether a reader says that its calls did not come.
+fn is_cut(parts: TraceReader) -> bool {
+    parts.finish().err() == Some(TraceFault::Truncated { at: 12 })
+}
+
 /// Readers that were fed a header which counts calls that do not come. Did each take four bytes for each
 /// call that is counted, all would take 195 TiB, which is more than a process can have.
 #[test]
@@ -177,13 +188,10 @@ fn no_memory_is_taken_for_calls_that_are_counted_and_do_not_come(
 ) -> Result<(), Fail> {
     let mut readers = Vec::new(rt.alloc());
     for _ in 0..200_000u32 {
-        let mut parts = TraceReader::new(rt.alloc());
-        parts.feed(&MOST)?;
-        readers.push(parts)?;
+        readers.push(awaiting(rt.alloc())?)?;
     }
     for parts in readers {
-        let fault = parts.finish().err();
-        assert_eq!(rt; fault, Some(TraceFault::Truncated { at: 12 }));
+        assert!(rt; is_cut(parts));
     }
     Ok(())
 }

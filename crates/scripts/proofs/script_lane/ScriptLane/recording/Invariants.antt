@@ -6,6 +6,6 @@ use Rattle.scripts.proofs.script_lane.ScriptLane.recording.Given as goal
 -- the calls so far
 abbrev pub invariant-loop-position : goal.invariant-loop-position
 invariant-loop-position g l = record {
-  calls : l.history ≡ map ended (take l.position l.self-inside.lane.calls);
+  calls : l.history ≡ map ended (take l.position l.lane.calls);
   places : l.certificate ≡ range_with_len 0 l.position;
 }

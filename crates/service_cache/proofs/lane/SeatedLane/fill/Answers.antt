@@ -8,7 +8,15 @@ use Rattle.service_cache.proofs.Seating.{seated_put, seated_undone}
 use Rattle.service_cache.proofs.Refusing.{not_stale, put_full_exactly}
 use Rattle.service_lane.specs.declared.filled.Filled.{Filled}
 use Rattle.service_cache.specs.declared.seat_fault.SeatPutFault.TheVariants as put_refusals
+use Rattle.service_lane.specs.Serving.{Serving}
+use Rattle.service_cache.specs.Seated.{Seated}
+use Rattle.deed_book.specs.declared.register.EntryFault.TheVariants as entries
+use Rattle.record_pages.specs.declared.put_fault.PutFault.TheVariants as puts
+use Rattle.service_cache.proofs.Answering.{is_fault, none_answered_if, refused_by, not_by_book, not_by_store, refused_not_stale, is_stale, is_large}
 use Rattle.service_cache.proofs.lane.SeatedLane.fill.Goals as goal
+
+abbrev seated : {D : Type 0} → Serving D → Registered → Seated D
+seated serving register = record { serving = serving; register = register }
 
 pub invariant_of-self : goal.invariant_of-self
 invariant_of-self g c =
@@ -57,3 +65,66 @@ returns-in_default-clause-room g c = rw (← c.self.view_is) (λ none. absurd (c
 
 pub returns-in-Err-clause-full : goal.returns-in-Err-clause-full
 returns-in-Err-clause-full g c = rw (← c.self.view_is) (put_full_exactly {X = Filled} (Err (put_refusals.Book c.in-Err.fault)) c.in-Err.fault _ refl c.in-Err.ensures.full).0
+
+pub returns-in_err-fill-clause-filled : goal.returns-in_err-fill-clause-filled
+returns-in_err-fill-clause-filled g c = none_answered_if c.from_residual.result (put_refusals.Put c.in_err-fill.field-0.0) _ (is_fault c.from_residual.result (put_refusals.Put c.in_err-fill.field-0.0) c.from_residual.ensures)
+
+pub returns-in_err-fill-clause-entered : goal.returns-in_err-fill-clause-entered
+returns-in_err-fill-clause-entered g c = none_answered_if c.from_residual.result (put_refusals.Put c.in_err-fill.field-0.0) _ (is_fault c.from_residual.result (put_refusals.Put c.in_err-fill.field-0.0) c.from_residual.ensures)
+
+pub returns-in_err-fill-clause-room : goal.returns-in_err-fill-clause-room
+returns-in_err-fill-clause-room g c = none_answered_if c.from_residual.result (put_refusals.Put c.in_err-fill.field-0.0) _ (is_fault c.from_residual.result (put_refusals.Put c.in_err-fill.field-0.0) c.from_residual.ensures)
+
+pub returns-in_err-fill-clause-stale : goal.returns-in_err-fill-clause-stale
+returns-in_err-fill-clause-stale g c = rw (← c.self.view_is) (refused_not_stale c.from_residual.result (put_refusals.Put c.in_err-fill.field-0.0) c.in_err-fill.field-0.0 _ (is_fault c.from_residual.result (put_refusals.Put c.in_err-fill.field-0.0) c.from_residual.ensures) c.in_err-fill.ensures.stale)
+
+pub returns-in_err-fill-clause-full : goal.returns-in_err-fill-clause-full
+returns-in_err-fill-clause-full g c = not_by_book c.from_residual.result c.in_err-fill.field-0.0 entries.Full _ (is_fault c.from_residual.result (put_refusals.Put c.in_err-fill.field-0.0) c.from_residual.ensures)
+
+pub returns-in_err-fill-clause-large : goal.returns-in_err-fill-clause-large
+returns-in_err-fill-clause-large g c = is_large c.from_residual.result c.in_err-fill.field-0.0 _ _ (is_fault c.from_residual.result (put_refusals.Put c.in_err-fill.field-0.0) c.from_residual.ensures) c.in_err-fill.ensures.large
+
+pub returns-in_err-fill-clause-refused : goal.returns-in_err-fill-clause-refused
+returns-in_err-fill-clause-refused g c =
+    let i = c.self.inside in
+    let counted = ap (λ (s : Serving g.row.D.Denot). seated s i.register) c.in_err-fill.ensures.refused in
+    rw (← c.self.view_is) (refused_by c.from_residual.result (put_refusals.Put c.in_err-fill.field-0.0) _ (is_fault c.from_residual.result (put_refusals.Put c.in_err-fill.field-0.0) c.from_residual.ensures) (counted, refl))
+
+pub returns-in_default-clause-filled : goal.returns-in_default-clause-filled
+returns-in_default-clause-filled g c =
+    let stored = rw c.in-Stored.is at c.in_ok-fill.ensures.filled in
+    rw (← c.self.view_is) (rw c.in_default.ensures.stays stored)
+
+pub returns-in_default-clause-entered : goal.returns-in_default-clause-entered
+returns-in_default-clause-entered g c =
+    let lane_of = g.L.KeyLanes.lane_of in
+    let enters = subst (λ (w : Deed). EntersIn lane_of c.self.inside.register c.args.seat.now w c.enter_or_remove.new.register c.enter_or_remove.new.seat) c.put-put.ensures c.in_default.ensures.entered in
+    rw (← c.self.view_is) enters
+
+pub returns-in-Stale-clause-stale : goal.returns-in-Stale-clause-stale
+returns-in-Stale-clause-stale g c =
+    let stale = rw c.in-Stale.is at c.in_ok-fill.ensures.stale in
+    rw (← c.self.view_is) (is_stale _ stale)
+
+pub returns-in-Stale-clause-filled : goal.returns-in-Stale-clause-filled
+returns-in-Stale-clause-filled g c =
+    let stale = rw c.in-Stale.is at c.in_ok-fill.ensures.filled in
+    rw (← c.self.view_is) stale
+
+pub returns-in-Stale-clause-entered : goal.returns-in-Stale-clause-entered
+returns-in-Stale-clause-entered g c = (ap (λ s. s.register) c.self.view_is, refl)
+
+pub returns-in-Err-clause-large : goal.returns-in-Err-clause-large
+returns-in-Err-clause-large g c = not_by_store _ c.in-Err.fault puts.TooLarge _ refl
+
+pub returns-in_default-clause-full : goal.returns-in_default-clause-full
+returns-in_default-clause-full g c = λ e. absurd (cc)
+
+pub returns-in_default-clause-large : goal.returns-in_default-clause-large
+returns-in_default-clause-large g c = λ e. absurd (cc)
+
+pub returns-in-Stale-clause-full : goal.returns-in-Stale-clause-full
+returns-in-Stale-clause-full g c = λ e. absurd (cc)
+
+pub returns-in-Stale-clause-large : goal.returns-in-Stale-clause-large
+returns-in-Stale-clause-large g c = λ e. absurd (cc)

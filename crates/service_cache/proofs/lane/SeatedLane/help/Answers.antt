@@ -6,3 +6,9 @@ use Rattle.service_cache.proofs.lane.SeatedLane.help.Goals as goal
 
 pub invariant_of-self : goal.invariant_of-self
 invariant_of-self g c = subst (λ (ds : List Deed). IsSeated g.L.KeyLanes.lane_of c.self.inside.register ds) (sym (ap (λ s. s.deeds) c.help.ensures.rest)) c.self.invariant
+
+pub returns-clause-helps : goal.returns-clause-helps
+returns-clause-helps g c = rw (← c.self.view_is) c.help.ensures
+
+pub returns-clause-register : goal.returns-clause-register
+returns-clause-register g c = ap (λ s. s.register) c.self.view_is

@@ -1,7 +1,21 @@
-use Rattle.std.proofs.Common.{List, sym, ap, subst}
+use Rattle.std.proofs.Common.{List, sym, ◌∙◌, ap, subst}
 use Rattle.certificate_checker.specs.Deeds.{Deed}
-use Rattle.service_cache.specs.Seated.{IsSeated}
+use Rattle.service_lane.specs.Leases.{writes_for}
+use Rattle.service_lane.specs.Serving.{Serving}
+use Rattle.service_cache.specs.Seated.{Seated, IsSeated}
+use Rattle.deed_book.specs.Registers.{Registered}
 use Rattle.service_cache.proofs.lane.SeatedLane.lease.Goals as goal
+
+abbrev seated : {D : Type 0} → Serving D → Registered → Seated D
+seated serving register = record { serving = serving; register = register }
 
 pub invariant_of-self : goal.invariant_of-self
 invariant_of-self g c = subst (λ (ds : List Deed). IsSeated g.L.KeyLanes.lane_of c.self.inside.register ds) (sym (ap (λ s. s.deeds) c.lease.ensures.leaves)) c.self.invariant
+
+pub returns-clause-lease : goal.returns-clause-lease
+returns-clause-lease g c = c.lease.ensures.lease ∙ ap (λ s. writes_for s.serving.slots c.args.key.now) c.self.view_is
+
+pub returns-clause-leaves : goal.returns-clause-leaves
+returns-clause-leaves g c =
+    let leaves = ap (λ (s : Serving g.row.D.Denot). seated s c.self.inside.register) c.lease.ensures.leaves in
+    rw (← c.self.view_is) leaves

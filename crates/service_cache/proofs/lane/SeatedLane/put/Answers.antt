@@ -1,10 +1,15 @@
-use Rattle.std.proofs.Common.{rules, Err, refl, ◌≡◌, [], ◌∷◌, ◌++◌, sym, ◌∙◌, ap, subst}
+use Rattle.std.proofs.Common.{Err, ℕ, List, refl, ◌≡◌, [], ◌∷◌, ◌++◌, sym, ◌∙◌, ap, subst}
 use Rattle.trace_file.specs.declared.act.Act.TheVariants.{Remove}
 use Rattle.certificate_checker.specs.Deeds.{Deed}
 use Rattle.deed_book.specs.Registers.{Registered, EntersIn}
 use Rattle.service_cache.specs.Seated.{IsSeated, put_of}
 use Rattle.service_cache.proofs.Seating.{seated_put, seated_removed, seated_forgotten}
 use Rattle.service_cache.proofs.Refusing.{refused_put, refused_object, put_full_exactly, entered_exactly}
+use Rattle.service_lane.specs.Counting.{counts_refused_put}
+use Rattle.service_lane.specs.Serving.{Serving, Removes}
+use Rattle.service_cache.specs.Refusals.{RefusesPut}
+use Rattle.service_cache.specs.declared.seat_fault.SeatPutFault.TheVariants as put_refusals
+use Rattle.service_cache.proofs.Answering.{is_fault, none_answered, none_answered_if, refused_by, object_exactly}
 use Rattle.service_cache.proofs.lane.SeatedLane.put.Goals as goal
 
 pub invariant_of-self : goal.invariant_of-self
@@ -36,11 +41,64 @@ invariant_of-self-2 g c =
 
 pub returns-in_err-pushed-clause-cause : goal.returns-in_err-pushed-clause-cause
 returns-in_err-pushed-clause-cause g c =
-    refused_object g.row.PAGE c.args.key c.args.value c.from_residual-in_err-pushed.result c.in_err-pushed.field-0.0 (search rules) (refused_put g.row.PAGE c.args.key c.args.value (Err c.in_err-pushed.field-0.0) c.in_err-pushed.field-0.0 refl c.in_err-pushed.ensures.large)
+    refused_object g.row.PAGE c.args.key c.args.value c.from_residual-in_err-pushed.result c.in_err-pushed.field-0.0 (is_fault c.from_residual-in_err-pushed.result (put_refusals.Put c.in_err-pushed.field-0.0) c.from_residual-in_err-pushed.ensures) (refused_put g.row.PAGE c.args.key c.args.value (Err c.in_err-pushed.field-0.0) c.in_err-pushed.field-0.0 refl c.in_err-pushed.ensures.large)
 
 pub returns-in_err-enter_or_remove-clause-full : goal.returns-in_err-enter_or_remove-clause-full
 returns-in_err-enter_or_remove-clause-full g c =
-    rw (← c.self.view_is) (put_full_exactly c.from_residual.result c.in_err-enter_or_remove.field-0.0 _ (search rules) c.in_err-enter_or_remove.ensures.full)
+    rw (← c.self.view_is) (put_full_exactly c.from_residual.result c.in_err-enter_or_remove.field-0.0 _ (is_fault c.from_residual.result (put_refusals.Book c.in_err-enter_or_remove.field-0.0) c.from_residual.ensures) c.in_err-enter_or_remove.ensures.full)
 
 pub returns-clause-full : goal.returns-clause-full
 returns-clause-full g c = rw (← c.self.view_is) (entered_exactly c.in_ok-pushed.pushed c.in_ok-enter_or_remove.field-0 _ c.in_ok-enter_or_remove.ensures.full)
+
+pub returns-in_err-enter_or_remove-clause-stored : goal.returns-in_err-enter_or_remove-clause-stored
+returns-in_err-enter_or_remove-clause-stored g c = none_answered_if c.from_residual.result (put_refusals.Book c.in_err-enter_or_remove.field-0.0) _ (is_fault c.from_residual.result (put_refusals.Book c.in_err-enter_or_remove.field-0.0) c.from_residual.ensures)
+
+pub returns-in_err-enter_or_remove-clause-entered : goal.returns-in_err-enter_or_remove-clause-entered
+returns-in_err-enter_or_remove-clause-entered g c = none_answered c.from_residual.result (put_refusals.Book c.in_err-enter_or_remove.field-0.0) _ (is_fault c.from_residual.result (put_refusals.Book c.in_err-enter_or_remove.field-0.0) c.from_residual.ensures)
+
+pub returns-in_err-enter_or_remove-clause-fits : goal.returns-in_err-enter_or_remove-clause-fits
+returns-in_err-enter_or_remove-clause-fits g c = none_answered c.from_residual.result (put_refusals.Book c.in_err-enter_or_remove.field-0.0) _ (is_fault c.from_residual.result (put_refusals.Book c.in_err-enter_or_remove.field-0.0) c.from_residual.ensures)
+
+pub returns-in_err-pushed-clause-stored : goal.returns-in_err-pushed-clause-stored
+returns-in_err-pushed-clause-stored g c = none_answered_if c.from_residual-in_err-pushed.result (put_refusals.Put c.in_err-pushed.field-0.0) _ (is_fault c.from_residual-in_err-pushed.result (put_refusals.Put c.in_err-pushed.field-0.0) c.from_residual-in_err-pushed.ensures)
+
+pub returns-in_err-pushed-clause-entered : goal.returns-in_err-pushed-clause-entered
+returns-in_err-pushed-clause-entered g c = none_answered c.from_residual-in_err-pushed.result (put_refusals.Put c.in_err-pushed.field-0.0) _ (is_fault c.from_residual-in_err-pushed.result (put_refusals.Put c.in_err-pushed.field-0.0) c.from_residual-in_err-pushed.ensures)
+
+pub returns-in_err-pushed-clause-fits : goal.returns-in_err-pushed-clause-fits
+returns-in_err-pushed-clause-fits g c = none_answered c.from_residual-in_err-pushed.result (put_refusals.Put c.in_err-pushed.field-0.0) _ (is_fault c.from_residual-in_err-pushed.result (put_refusals.Put c.in_err-pushed.field-0.0) c.from_residual-in_err-pushed.ensures)
+
+pub returns-in_err-enter_or_remove-clause-cause : goal.returns-in_err-enter_or_remove-clause-cause
+returns-in_err-enter_or_remove-clause-cause g c =
+    refused_by c.from_residual.result (put_refusals.Book c.in_err-enter_or_remove.field-0.0) (RefusesPut g.row.PAGE c.args.key c.args.value) (is_fault c.from_residual.result (put_refusals.Book c.in_err-enter_or_remove.field-0.0) c.from_residual.ensures) tt
+
+pub returns-clause-stored : goal.returns-clause-stored
+returns-clause-stored g c =
+    let between = c.in_ok-enter_or_remove.ensures.stays in
+    rw (← c.self.view_is) (rw (← between) c.in_ok-pushed.ensures.stored)
+
+pub returns-clause-entered : goal.returns-clause-entered
+returns-clause-entered g c =
+    let lane_of = g.L.KeyLanes.lane_of in
+    let enters = subst (λ (w : Deed). EntersIn lane_of c.self.inside.register c.args.seat.now w c.enter_or_remove.new.register c.enter_or_remove.new.seat) c.put-put.ensures c.in_ok-enter_or_remove.ensures.entered in
+    rw (← c.self.view_is) enters
+
+pub returns-in_err-pushed-clause-full : goal.returns-in_err-pushed-clause-full
+returns-in_err-pushed-clause-full g c =
+    rw (← c.self.view_is) (object_exactly c.from_residual-in_err-pushed.result c.in_err-pushed.field-0.0 c.in_ok-enter_or_remove.field-0 _ (is_fault c.from_residual-in_err-pushed.result (put_refusals.Put c.in_err-pushed.field-0.0) c.from_residual-in_err-pushed.ensures) c.in_ok-enter_or_remove.ensures.full)
+
+pub returns-in_err-pushed-clause-refused : goal.returns-in_err-pushed-clause-refused
+returns-in_err-pushed-clause-refused g c =
+    let lane_of = g.L.KeyLanes.lane_of in
+    let held = g.D.PageDevice.held in
+    let fault = c.in_err-pushed.field-0.0 in
+    let enters : EntersIn lane_of c.self.inside.register c.args.seat.now (put_of c.args.key c.args.value c.args.expires) c.enter_or_remove.new.register c.enter_or_remove.new.seat =
+    subst (λ (w : Deed). EntersIn lane_of c.self.inside.register c.args.seat.now w c.enter_or_remove.new.register c.enter_or_remove.new.seat) c.put-put.ensures c.in_ok-enter_or_remove.ensures.entered in
+    let removed = subst (λ (s : Serving g.row.D.Denot). Removes held c.args.key (record s { counts = counts_refused_put fault s.counts }) c.put_or_remove.new.self) c.in_ok-enter_or_remove.ensures.stays c.in_err-pushed.ensures.removed in
+    rw (← c.self.view_is) (refused_by c.from_residual-in_err-pushed.result (put_refusals.Put fault) _ (is_fault c.from_residual-in_err-pushed.result (put_refusals.Put c.in_err-pushed.field-0.0) c.from_residual-in_err-pushed.ensures) (enters, removed))
+
+pub returns-in_err-enter_or_remove-clause-refused : goal.returns-in_err-enter_or_remove-clause-refused
+returns-in_err-enter_or_remove-clause-refused g c =
+    let why = c.in_err-enter_or_remove.ensures in
+    let removed = subst (λ (k : List ℕ). Removes g.D.PageDevice.held k c.self.inside.lane c.enter_or_remove.new.lane) c.bytes-bytes.ensures.value why.removed in
+    rw (← c.self.view_is) (refused_by c.from_residual.result (put_refusals.Book c.in_err-enter_or_remove.field-0.0) _ (is_fault c.from_residual.result (put_refusals.Book c.in_err-enter_or_remove.field-0.0) c.from_residual.ensures) (removed, why.refused.0, why.refused.1))

@@ -1,5 +1,5 @@
 -- A step of upkeep adds no deed, so the lane stays in its seat.
-use Rattle.std.proofs.Common.{List, sym, subst}
+use Rattle.std.proofs.Common.{List, sym, ap, subst}
 use Rattle.certificate_checker.specs.Deeds.{Deed}
 use Rattle.service_cache.specs.Seated.{IsSeated}
 use Rattle.service_cache.proofs.Honesty.{upkeeps_deeds}
@@ -10,3 +10,18 @@ invariant_of-self g c =
     let d = g.D.PageDevice in
     let step = c.upkeep_step in
     subst (λ (ds : List Deed). IsSeated g.L.KeyLanes.lane_of c.self.inside.register ds) (sym (upkeeps_deeds g.row.PAGE d.honest d.failures d.held (g.P.EvictionPolicy.plan_of c.args.policy.now) c.self.inside.lane step.result.did step.new.self step.ensures.upkept)) c.self.invariant
+
+pub returns-clause-upkept : goal.returns-clause-upkept
+returns-clause-upkept g c = rw (← c.self.view_is) c.upkeep_step.ensures.upkept
+
+pub returns-clause-asked : goal.returns-clause-asked
+returns-clause-asked g c = c.upkeep_step.ensures.asked
+
+pub returns-clause-unasked : goal.returns-clause-unasked
+returns-clause-unasked g c = rw (← c.self.view_is) c.upkeep_step.ensures.unasked
+
+pub returns-clause-due : goal.returns-clause-due
+returns-clause-due g c = c.upkeep_step.ensures.due
+
+pub returns-clause-register : goal.returns-clause-register
+returns-clause-register g c = ap (λ s. s.register) c.self.view_is

@@ -1,5 +1,5 @@
 -- What is due is done.
-use Rattle.std.proofs.Common.{◌≡◌, Some, ap, sym, ◌∙◌, subst}
+use Rattle.std.proofs.Common.{◌≡◌, Some, ap, sym, ◌∙◌, refl, subst, true≢false}
 use Rattle.klog.specs.Usage.{usage_of}
 use Rattle.service_lane.specs.declared.due.Due.TheVariants as due
 use Rattle.service_lane.specs.Dueness.{due_of}
@@ -9,6 +9,24 @@ use Rattle.service_lane.specs.Serving.{Serving}
 use Rattle.service_lane.specs.Upkeep.{Flushes, Moves, LacksMemory, due_in}
 use Rattle.service_lane.proofs.Tending.{page_done, moved_asks_none}
 use Rattle.service_lane.proofs.lane.ServiceLane.do_due.Goals as goal
+
+pub invariant_of-self : goal.invariant_of-self
+invariant_of-self g c = c.self.invariant
+
+pub invariant_of-self-in-Some-Move : goal.invariant_of-self-in-Some-Move
+invariant_of-self-in-Some-Move g c = c.self.invariant
+
+pub returns-in-None-clause-upkept : goal.returns-in-None-clause-upkept
+returns-in-None-clause-upkept g c = (ap due_of (sym c.log_usage.ensures) ∙ sym c.what_is_due.ensures ∙ c.in-None.is, refl)
+
+pub returns-in-None-clause-unasked : goal.returns-in-None-clause-unasked
+returns-in-None-clause-unasked g c asks = refl
+
+pub returns-in-Some-Flush-clause-unasked : goal.returns-in-Some-Flush-clause-unasked
+returns-in-Some-Flush-clause-unasked g c asks = absurd (true≢false asks)
+
+pub returns-in-Err-clause-unasked : goal.returns-in-Err-clause-unasked
+returns-in-Err-clause-unasked g c asks = absurd (true≢false asks)
 
 pub returns-in-Some-Flush-clause-upkept : goal.returns-in-Some-Flush-clause-upkept
 returns-in-Some-Flush-clause-upkept g c =

@@ -5,9 +5,11 @@ use Rattle.memory_cache.specs.declared.pair.Pair.{Pair}
 use Rattle.trace_file.specs.declared.act.Act.TheVariants.{Put}
 use Rattle.service_lane.specs.Copies.{CopyAsked}
 use Rattle.service_lane.specs.declared.counter.Counter.TheVariants as counter
-use Rattle.service_lane.specs.Counters.{with_more, with_one_if}
-use Rattle.service_lane.specs.Counting.{bytes_of, counter_of_pushed}
-use Rattle.service_lane.specs.Leases.{HoldsLease}
+use Rattle.service_lane.specs.Counters.{with_more, with_one, with_one_if}
+use Rattle.service_lane.specs.declared.counter.Counter.{Counter}
+use Rattle.service_lane.specs.declared.counts.Counts.{Counts}
+use Rattle.service_lane.specs.Counting.{bytes_of, counter_of_pushed, counts_refused_fill}
+use Rattle.service_lane.specs.Leases.{LeaseSlots, HoldsLease}
 use Rattle.service_lane.specs.Serving.{Serving, FillsStore}
 use Rattle.service_lane.proofs.Writing.{counted_write, counted_kept, unwritten}
 use Rattle.service_lane.proofs.lane.ServiceLane.fill_held.Goals as goal
@@ -39,3 +41,18 @@ returns-in-Ok-clause-filled g c held =
           ∙ ap (with_one_if (counter_of_pushed c.in-Ok.pushed)) (c.add.ensures ∙ ap (λ n. with_more n counter.FillsBytes c.count.new.self) c.bytes_of-bytes.ensures ∙ ap (with_more (bytes_of a.key a.value) counter.FillsBytes) c.count.ensures);
     } in
     subst (λ (s : Serving g.row.D.Denot). FillsStore g.row.PAGE d.held p a.word a.lease.writes c.in-Ok.pushed s new) c.self.view_is put
+
+pub returns-in-Ok-clause-large : goal.returns-in-Ok-clause-large
+returns-in-Ok-clause-large g c = c.in-Ok.ensures.puts.too_large
+
+pub returns-in-Err-clause-large : goal.returns-in-Err-clause-large
+returns-in-Err-clause-large g c = c.in-Err.ensures.puts.too_large
+
+pub returns-in-Err-clause-refused : goal.returns-in-Err-clause-refused
+returns-in-Err-clause-refused g c =
+    let i = c.self.inside in
+    let fault = c.in-Err.fault in
+    let lane : CopyAsked g.row.D.Denot → LeaseSlots → Counts → Serving g.row.D.Denot = λ asked slots counts. record { store = asked.store; deeds = asked.deeds; copies = asked.copies; slots = slots; counts = counts } in
+    let counted = c.count-in-Err.ensures ∙ ap (λ (k : Counter). with_one k i.counts) c.of_refused_fill.ensures in
+    ap (λ (s : CopyAsked g.row.D.Denot). lane s c.put_counted.new.slots c.count-in-Err.new.self) c.in-Err.ensures.asked_kept ∙ ap (λ (s : LeaseSlots). lane i.asked s c.count-in-Err.new.self) c.in-Err.ensures.slots_kept ∙ ap (λ (n : Counts). lane i.asked i.slots n) counted
+    ∙ ap (λ (s : Serving g.row.D.Denot). record s { counts = counts_refused_fill fault s.counts }) c.self.view_is
