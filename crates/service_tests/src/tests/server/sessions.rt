@@ -39,12 +39,22 @@ fn feed_pieces(
     Ok(())
 }
 
+// A new lane, in a box.
+fn new_lane(alloc: Global) -> Result<Box<Lane>, Fail> {
+    let device = MemoryDevice::new(alloc, 3)?;
+    let lane = ServiceLane::open(alloc, &SMALL, 4, device, RandomSeed::fixed())?;
+    Ok(boxed(alloc, lane)?)
+}
+
+fn boxed(alloc: Global, lane: Lane) -> Result<Box<Lane>, AllocError> {
+    Ok(Box::new(alloc, lane)?)
+}
+
 // What a stream is answered that comes in pieces of so many bytes to a new lane, and whether the client is to be closed then.
 fn answers_of(alloc: Global, stream: &[u8], piece: usize, refuses: bool) -> Result<Client, Fail> {
-    let device = MemoryDevice::new(alloc, 3)?;
-    let mut lane: Lane = ServiceLane::open(alloc, &SMALL, 4, device, RandomSeed::fixed())?;
+    let mut lane = new_lane(alloc)?;
     let mut client = Client::new(alloc, refuses);
-    feed_pieces(alloc, &mut lane, &mut client, stream, piece)?;
+    feed_pieces(alloc, &mut *lane, &mut client, stream, piece)?;
     Ok(client)
 }
 
@@ -164,9 +174,8 @@ fn a_set_that_is_refused_leaves_no_older_item(rt: HostRuntime) -> Result<(), Fai
 fn what_is_no_session_is_closed(rt: HostRuntime) -> Result<(), Fail> {
     let mut client = Client::new(rt.alloc(), false);
     client.session.place = 9;
-    let device = MemoryDevice::new(rt.alloc(), 3)?;
-    let mut lane: Lane = ServiceLane::open(rt.alloc(), &SMALL, 4, device, RandomSeed::fixed())?;
-    let taken = client.feed(rt.alloc(), &mut lane, b"mn\r\n")?;
+    let mut lane = new_lane(rt.alloc())?;
+    let taken = client.feed(rt.alloc(), &mut *lane, b"mn\r\n")?;
     assert!(rt; taken == 0);
     assert!(rt; client.is_closed);
     Ok(())
