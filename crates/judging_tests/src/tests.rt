@@ -1,7 +1,11 @@
+mod cases;
 mod commands;
 mod finder;
 mod forgetting;
+mod judging;
+mod made;
 mod pictures;
+mod reading;
 mod skew;
 mod streams;
 mod texts;

@@ -1,5 +1,4 @@
 //! What is reported, and how the program ends.
-mod answers;
 mod files;
 mod json;
 mod junit;

@@ -1,4 +1,6 @@
-// Files and standard input that are read, and files that are written.
+//! Files and standard input that are read, and files that are written.
+use crate::tests::cases::{parted, push_line};
+use crate::tests::made::is;
 use history_text::Share;
 use judge_run::{
     CheckRequest, Detail, JudgeRequest, Scope, ShowRequest, check_with, judge_with, run_check,
@@ -6,41 +8,12 @@ use judge_run::{
 };
 use std::alloc::{AllocError, Global};
 use std::fs;
+use std::mem::replace;
 use std::random::RandomSource;
 use std::rt::Files;
 use std::test::Fail;
+use test_devices::{Scripted, Step, run_text};
 use trace_file::FileName;
-
-/// What is done with files, and what comes of it.
-#[derive(Clone, Copy)]
-enum Step {
-    /// These bytes are written to a file.
-    Write(&'static str, &'static [u8]),
-    /// A file is judged, with a picture and a trace, and the program ends with this status.
-    Judge(&'static str, u8),
-    /// A file is checked, with a picture.
-    Check(&'static str, u8),
-    /// The calls of a file that are of a key are shown.
-    Show(&'static str, &'static str, u8),
-    /// A standard input of these bytes is judged.
-    JudgeInput(&'static [u8], u8),
-    /// The same, if an accepted history has to have so many calls.
-    JudgeAtLeast(&'static [u8], u64, u8),
-    /// The same, if each stamp may differ from the truth by so much.
-    JudgeSkewed(&'static [u8], u64, u8),
-    /// The same, if one key in two is judged, of which this is the part.
-    JudgeKeys(&'static [u8], u32, u8),
-    /// It is checked.
-    CheckInput(&'static [u8], u8),
-    /// Its calls that are of a key are shown.
-    ShowInput(&'static [u8], &'static str, u8),
-    /// There is no picture.
-    NoPicture,
-    /// The picture is one element. It is removed.
-    Picture,
-    /// A file is removed.
-    Remove(&'static str),
-}
 
 /// A trace of two puts, of `k` and of `j`.
 const TRACE: &[u8] =
@@ -50,72 +23,295 @@ const TRACE: &[u8] =
 const TURNED: &[u8] =
     b"KGTRACE1\0\0\0\x02\x01\0\0\0\0\0\0\0\0\0\x01\0\0\0\0\0\0\0\x04\x01k\0\x01v\x03\0\x01\0\0\0\0\0\0\0\x02\0\0\0\0\0\0\0\x06\x01k\0\x01v\0\0\0\x01\0\0\0\0";
 
-/// A hit of `v` starts 5 after the put of `w` has ended, which starts 10 after the put of `v` has ended.
-const STALE: &[u8] = b"a 0 10 put k v\nb 20 30 put k w\nc 35 40 hit k v\n";
+/// What is asked of the next judging: no files that are written, further files that are judged, and what of the calls is judged.
+#[derive(Drop)]
+pub(super) struct Asked {
+    bare: bool,
+    json: bool,
+    others: Vec<FileName>,
+    at_least: u64,
+    scope: Scope,
+}
 
-static STEPS: [Step; 45] = [
-    // what is no file is no trace
-    Step::Check("there is no such file", 3),
-    Step::Check(".", 2),
-    // an accepted history is written as a trace, and no picture is drawn
-    Step::Write(
-        "judged.txt",
-        b"a 1 4 put k v\nb 5 6 hit k v\na 7 8 put j w\n",
-    ),
-    Step::Judge("judged.txt", 0),
-    Step::Check("judged.trace", 0),
-    Step::NoPicture,
-    // a rejected one is drawn, and the trace stays
-    Step::Write("judged.txt", b"a 1 4 remove k\nb 5 6 hit k v\n"),
-    Step::Judge("judged.txt", 1),
-    Step::Picture,
-    Step::Show("judged.trace", "k", 0),
-    Step::Show("judged.trace", "j", 0),
-    // a word that writes no key
-    Step::Show("judged.trace", "%4", 2),
-    // a rejected trace is drawn
-    Step::Write("judged.trace", TURNED),
-    Step::Check("judged.trace", 1),
-    Step::Picture,
-    // `-` is the standard input, and no file
-    Step::Write("-", b"a 1 4 hit k v\n"),
-    Step::JudgeInput(b"a 1 4 put k v\n", 0),
-    Step::NoPicture,
-    Step::JudgeInput(b"a 1 4 hit k w\n", 1),
-    Step::Picture,
-    Step::CheckInput(TRACE, 0),
-    Step::NoPicture,
-    Step::CheckInput(TURNED, 1),
-    Step::Picture,
-    Step::ShowInput(TRACE, "k", 0),
-    Step::ShowInput(TRACE, "j", 0),
-    Step::Remove("-"),
-    // also if no file has that name
-    Step::JudgeInput(b"", 0),
-    Step::CheckInput(b"", 2),
-    Step::ShowInput(TRACE, "j", 0),
-    // an accepted history that is too short is bad input, a rejected one is rejected
-    Step::JudgeAtLeast(b"a 1 4 put k v\n", 1, 0),
-    Step::JudgeAtLeast(b"a 1 4 put k v\n", 2, 2),
-    Step::JudgeAtLeast(b"", 1, 2),
-    Step::JudgeAtLeast(b"a 1 4 hit k w\n", 2, 1),
-    Step::Picture,
-    // a hit is stale for clocks that are 4 apart, and right for some that are 6 apart
-    Step::JudgeSkewed(STALE, 0, 1),
-    Step::JudgeSkewed(STALE, 2, 1),
-    Step::Picture,
-    Step::JudgeSkewed(STALE, 3, 0),
-    Step::NoPicture,
-    // a key that is not asked for
-    Step::JudgeKeys(b"a 1 4 put k v\n", 0, 0),
-    Step::JudgeKeys(b"a 1 4 put k v\n", 1, 0),
-    Step::Remove("judged.txt"),
-    Step::Remove("judged.trace"),
-    Step::Remove("judged.xml"),
-];
+/// Nothing is asked.
+pub(super) fn unasked(alloc: Global) -> Asked {
+    Asked {
+        bare: false,
+        json: false,
+        others: Vec::new(alloc),
+        at_least: 0,
+        scope: Scope::WHOLE,
+    }
+}
 
-/// What these steps write.
-const WRITTEN: &str = "bad trace ReadFault at 0
+/// The bytes of the standard input or of the next file, what is asked, and what was written so far.
+#[derive(Drop)]
+struct Played<'a, R> {
+    rt: &'a R,
+    input: Vec<u8>,
+    asked: Asked,
+    out: Vec<u8>,
+    err: Vec<u8>,
+}
+
+impl<R: AllocGlobal + Files + Input + RandomSource> Scripted for Played<'_, R> {
+    ghost use Rattle.std.specs.Prelude.{⊤};
+
+    ghost can_act = { ⊤ };
+
+    fn act(&mut self, alloc: Global, step: &mut Step<'_>) -> Result<(), Fail> {
+        let word = step.word();
+        if asks(alloc, &mut self.asked, word, step)? || gives(&mut self.input, word, step)? {
+            return Ok(());
+        }
+        let name = step.word();
+        let file = str::from_utf8(name).unwrap_or("");
+        if is(word, b"judge") || is(word, b"check") || is(word, b"show") {
+            let status = self.run(alloc, word, file, step)?;
+            step.tell_number(u64::from(status));
+            self.asked = unasked(alloc);
+        } else if !handle(self.rt, word, file, self.input.as_slice())? {
+            step.refuse();
+        }
+        self.input.clear();
+        Ok(())
+    }
+}
+
+impl<R: AllocGlobal + Files + Input + RandomSource> Played<'_, R> {
+    /// Judges, checks or shows a file, or the standard input if that is asked or the name is `-`, and gives the status.
+    fn run(
+        &mut self,
+        alloc: Global,
+        word: &[u8],
+        file: &str,
+        step: &mut Step<'_>,
+    ) -> Result<u8, AllocError> {
+        let lent = file == "-" || self.asked.bare;
+        let mut input = self.input.as_slice();
+        let (rt, out, err) = (self.rt, &mut self.out, &mut self.err);
+        if is(word, b"judge") {
+            let request = judge_of(alloc, file, &mut self.asked)?;
+            return Ok(if lent {
+                judge_with(rt, &mut input, &request, out, err)
+            } else {
+                run_judge(rt, &request, out, err)
+            });
+        }
+        if is(word, b"check") {
+            let request = check_of(alloc, file)?;
+            return Ok(if lent {
+                check_with(rt, &mut input, &request, out, err)
+            } else {
+                run_check(rt, &request, out, err)
+            });
+        }
+        let request = show_of(alloc, file, step.word())?;
+        Ok(if lent {
+            show_with(rt, &mut input, &request, out, err)
+        } else {
+            run_show(rt, &request, out, err)
+        })
+    }
+}
+
+/// Asks something of the next judging, and says whether the word is one of that.
+fn asks(
+    alloc: Global,
+    asked: &mut Asked,
+    word: &[u8],
+    step: &mut Step<'_>,
+) -> Result<bool, AllocError> {
+    if is(word, b"bare") {
+        asked.bare = true;
+    } else if is(word, b"json") {
+        asked.json = true;
+    } else if is(word, b"least") {
+        asked.at_least = step.number();
+    } else if is(word, b"skew") {
+        asked.scope.skew = step.number();
+    } else if is(word, b"keys") {
+        asked.scope.reading.share = Share::new(step.small(), 2).unwrap_or(Share::ALL);
+    } else if is(word, b"other") {
+        asked.others.push(name_of(alloc, step.word())?)?;
+    } else {
+        return Ok(false);
+    }
+    Ok(true)
+}
+
+/// Gives bytes, and says whether the word is one of that.
+fn gives(input: &mut Vec<u8>, word: &[u8], step: &mut Step<'_>) -> Result<bool, AllocError> {
+    if is(word, b"line") {
+        push_line(input, step)?;
+    } else if is(word, b"trace") {
+        input.extend_from_slice(TRACE)?;
+    } else if is(word, b"turned") {
+        input.extend_from_slice(TURNED)?;
+    } else {
+        return Ok(false);
+    }
+    Ok(true)
+}
+
+/// Writes a file or removes it, or looks for the picture, and says whether there was what the word says.
+fn handle<R: AllocGlobal + Files>(
+    rt: &R,
+    word: &[u8],
+    file: &str,
+    bytes: &[u8],
+) -> Result<bool, Fail> {
+    if is(word, b"write") {
+        return Ok(fs::write(rt, file, bytes).is_ok());
+    }
+    if is(word, b"remove") {
+        return Ok(fs::remove_file(rt, file).is_ok());
+    }
+    if is(word, b"no-picture") {
+        return Ok(fs::open(rt, "judged.svg").is_err());
+    }
+    Ok(is(word, b"picture") && is_drawn(rt)?)
+}
+
+/// Whether the picture is one element. It is removed.
+fn is_drawn<R: AllocGlobal + Files>(rt: &R) -> Result<bool, Fail> {
+    let picture: Vec<u8> = fs::read(rt, "judged.svg")?;
+    fs::remove_file(rt, "judged.svg")?;
+    Ok(picture.starts_with(b"<svg ") && picture.ends_with(b"</svg>\n"))
+}
+
+/// A file's name.
+fn name_of(alloc: Global, word: &[u8]) -> Result<FileName, AllocError> {
+    FileName::new(alloc, str::from_utf8(word).unwrap_or(""))
+}
+
+/// The name of a file that is written, unless nothing is.
+fn written(alloc: Global, bare: bool, name: &str) -> Result<Option<FileName>, AllocError> {
+    if bare {
+        return Ok(None);
+    }
+    Ok(Some(FileName::new(alloc, name)?))
+}
+
+/// Judging a file.
+pub(super) fn judge_of(
+    alloc: Global,
+    file: &str,
+    asked: &mut Asked,
+) -> Result<Box<JudgeRequest>, AllocError> {
+    let bare = asked.bare;
+    let file = FileName::new(alloc, file)?;
+    let picture = written(alloc, bare, "judged.svg")?;
+    let trace = written(alloc, bare, "judged.trace")?;
+    let junit = written(alloc, bare, "judged.xml")?;
+    let request = JudgeRequest {
+        others: replace(&mut asked.others, Vec::new(alloc)),
+        file,
+        detail: Detail::NONE,
+        json: asked.json,
+        picture,
+        trace,
+        junit,
+        at_least: asked.at_least,
+        scope: asked.scope,
+    };
+    Ok(Box::new(alloc, request)?)
+}
+
+/// A check of a file, with a picture.
+pub(super) fn check_of(alloc: Global, file: &str) -> Result<CheckRequest, AllocError> {
+    Ok(CheckRequest {
+        file: FileName::new(alloc, file)?,
+        explain: false,
+        json: false,
+        picture: written(alloc, false, "judged.svg")?,
+    })
+}
+
+/// Showing a file, the calls of a key.
+fn show_of(alloc: Global, file: &str, key: &[u8]) -> Result<ShowRequest, AllocError> {
+    let key = str::from_utf8(key).unwrap_or("");
+    Ok(ShowRequest {
+        file: FileName::new(alloc, file)?,
+        key: Some(String::from_str(alloc, key)?),
+    })
+}
+
+/// Takes the steps of each case of a text, and looks at what is written to the standard output, and to the standard error, if that
+/// is told.
+pub(super) fn run_cases<R: AllocGlobal + Files + Input + RandomSource>(
+    rt: &R,
+    text: &[u8],
+) -> Result<(), Fail> {
+    for case in text.split(|b| *b == b'@') {
+        run_case(rt, case)?;
+    }
+    Ok(())
+}
+
+fn run_case<R: AllocGlobal + Files + Input + RandomSource>(
+    rt: &R,
+    case: &[u8],
+) -> Result<(), Fail> {
+    let (steps, told) = parted(case);
+    let (out, err) = parted(told);
+    let mut played = Played {
+        rt,
+        input: Vec::new(rt.alloc()),
+        asked: unasked(rt.alloc()),
+        out: Vec::new(rt.alloc()),
+        err: Vec::new(rt.alloc()),
+    };
+    run_text(rt.alloc(), &mut played, steps)?;
+    if played.out.as_slice() != out || (!err.is_empty() && played.err.as_slice() != err) {
+        return Err("another output".into());
+    }
+    Ok(())
+}
+
+static STEPS: &[u8] = b"
+# what is no file is no trace
+check absent 3
+check . 2
+# an accepted history is written as a trace, and no picture is drawn
+line a 1 4 put k v; line b 5 6 hit k v; line a 7 8 put j w; write judged.txt
+judge judged.txt 0; check judged.trace 0; no-picture
+# a rejected one is drawn, and the trace stays
+line a 1 4 remove k; line b 5 6 hit k v; write judged.txt
+judge judged.txt 1; picture
+show judged.trace k 0; show judged.trace j 0
+# a word that writes no key
+show judged.trace %4 2
+# a rejected trace is drawn
+turned; write judged.trace; check judged.trace 1; picture
+# `-` is the standard input, and no file
+line a 1 4 hit k v; write -
+line a 1 4 put k v; judge - 0; no-picture
+line a 1 4 hit k w; judge - 1; picture
+trace; check - 0; no-picture
+turned; check - 1; picture
+trace; show - k 0
+trace; show - j 0
+remove -
+# also if no file has that name
+judge - 0
+check - 2
+trace; show - j 0
+# an accepted history that is too short is bad input, a rejected one is rejected
+line a 1 4 put k v; least 1; judge - 0
+line a 1 4 put k v; least 2; judge - 2
+least 1; judge - 2
+line a 1 4 hit k w; least 2; judge - 1; picture
+# a hit of v starts 5 after the put of w has ended, which starts 10 after the put of v has ended: it is stale for clocks that are 4
+# apart, and right for some that are 6 apart
+line a 0 10 put k v; line b 20 30 put k w; line c 35 40 hit k v; skew 0; judge - 1
+line a 0 10 put k v; line b 20 30 put k w; line c 35 40 hit k v; skew 2; judge - 1; picture
+line a 0 10 put k v; line b 20 30 put k w; line c 35 40 hit k v; skew 3; judge - 0; no-picture
+# a key that is not asked for
+line a 1 4 put k v; keys 0; judge - 0
+line a 1 4 put k v; keys 1; judge - 0
+remove judged.txt; remove judged.trace; remove judged.xml
+^bad trace ReadFault at 0
 accepted 3 calls
 accepted 3 calls
 rejected hit key k lines 2
@@ -141,11 +337,8 @@ rejected hit key k lines 1 2 3
 accepted 3 calls
 accepted 1 calls
 accepted 0 calls
-";
-
-/// What they tell of failures.
-const TOLD: &str = "file fault
-there is no such file: No such file or directory (os error 2)
+^file fault
+absent: No such file or directory (os error 2)
 check the name of the file and its permissions
 .: at offset 0: a read failed: check that this is a readable file, and try again
 --key: bad percent-encoding in the key: % must be followed by two hexadecimal digits
@@ -157,218 +350,7 @@ standard input: 0 calls, and --at-least asks for 1: see whether the recorder wro
 standard input: warning: no call of the input has a key that --keys takes
 ";
 
-/// Judging a file, with a picture and a trace.
-fn judge_of(alloc: Global, file: &str) -> Result<JudgeRequest, AllocError> {
-    Ok(JudgeRequest {
-        others: Vec::new(alloc),
-        file: FileName::new(alloc, file)?,
-        detail: Detail::NONE,
-        json: false,
-        picture: Some(FileName::new(alloc, "judged.svg")?),
-        trace: Some(FileName::new(alloc, "judged.trace")?),
-        junit: Some(FileName::new(alloc, "judged.xml")?),
-        at_least: 0,
-        scope: Scope::WHOLE,
-    })
-}
-
-/// A check of a file, with a picture.
-fn check_of(alloc: Global, file: &str) -> Result<CheckRequest, AllocError> {
-    Ok(CheckRequest {
-        file: FileName::new(alloc, file)?,
-        explain: false,
-        json: false,
-        picture: Some(FileName::new(alloc, "judged.svg")?),
-    })
-}
-
-/// Showing a file, the calls of a key.
-fn show_of(alloc: Global, file: &str, key: &str) -> Result<ShowRequest, AllocError> {
-    Ok(ShowRequest {
-        file: FileName::new(alloc, file)?,
-        key: Some(String::from_str(alloc, key)?),
-    })
-}
-
-/// The status that judging a file ends with.
-fn judged<R: AllocGlobal + Files + Input + RandomSource>(
-    rt: &R,
-    file: &str,
-    out: &mut Vec<u8>,
-    err: &mut Vec<u8>,
-) -> Result<u8, AllocError> {
-    let request = judge_of(rt.alloc(), file)?;
-    Ok(run_judge(rt, &request, out, err))
-}
-
-/// The status that a request ends with, if the standard input is these bytes.
-pub(super) fn judged_so<R: AllocGlobal + Files + RandomSource>(
-    rt: &R,
-    mut bytes: &[u8],
-    request: &JudgeRequest,
-    out: &mut Vec<u8>,
-    err: &mut Vec<u8>,
-) -> u8 {
-    judge_with(rt, &mut bytes, request, out, err)
-}
-
-/// The status that judging a standard input of these bytes ends with.
-pub(super) fn judged_input<R: AllocGlobal + Files + RandomSource>(
-    rt: &R,
-    bytes: &[u8],
-    out: &mut Vec<u8>,
-    err: &mut Vec<u8>,
-) -> Result<u8, AllocError> {
-    let request = judge_of(rt.alloc(), "-")?;
-    Ok(judged_so(rt, bytes, &request, out, err))
-}
-
-/// The same, if an accepted history has to have so many calls.
-fn judged_at_least<R: AllocGlobal + Files + RandomSource>(
-    rt: &R,
-    bytes: &[u8],
-    at_least: u64,
-    out: &mut Vec<u8>,
-    err: &mut Vec<u8>,
-) -> Result<u8, AllocError> {
-    let mut request = judge_of(rt.alloc(), "-")?;
-    request.at_least = at_least;
-    Ok(judged_so(rt, bytes, &request, out, err))
-}
-
-/// The same, if each stamp may differ from the truth by so much.
-fn judged_skewed<R: AllocGlobal + Files + RandomSource>(
-    rt: &R,
-    bytes: &[u8],
-    skew: u64,
-    out: &mut Vec<u8>,
-    err: &mut Vec<u8>,
-) -> Result<u8, AllocError> {
-    let mut request = judge_of(rt.alloc(), "-")?;
-    request.scope.skew = skew;
-    Ok(judged_so(rt, bytes, &request, out, err))
-}
-
-/// The same, if one key in two is judged.
-fn judged_keys<R: AllocGlobal + Files + RandomSource>(
-    rt: &R,
-    bytes: &[u8],
-    part: u32,
-    out: &mut Vec<u8>,
-    err: &mut Vec<u8>,
-) -> Result<u8, AllocError> {
-    let mut request = judge_of(rt.alloc(), "-")?;
-    if let Some(share) = Share::new(part, 2) {
-        request.scope.reading.share = share;
-    }
-    Ok(judged_so(rt, bytes, &request, out, err))
-}
-
-/// The status that a check of a file ends with.
-fn checked<R: AllocGlobal + Files + Input + RandomSource>(
-    rt: &R,
-    file: &str,
-    out: &mut Vec<u8>,
-    err: &mut Vec<u8>,
-) -> Result<u8, AllocError> {
-    let request = check_of(rt.alloc(), file)?;
-    Ok(run_check(rt, &request, out, err))
-}
-
-/// The same of a standard input of these bytes.
-pub(super) fn checked_input<R: AllocGlobal + Files + RandomSource>(
-    rt: &R,
-    mut bytes: &[u8],
-    out: &mut Vec<u8>,
-    err: &mut Vec<u8>,
-) -> Result<u8, AllocError> {
-    let request = check_of(rt.alloc(), "-")?;
-    Ok(check_with(rt, &mut bytes, &request, out, err))
-}
-
-/// The status that showing a file ends with.
-fn shown<R: AllocGlobal + Files + Input>(
-    rt: &R,
-    file: &str,
-    key: &str,
-    out: &mut Vec<u8>,
-    err: &mut Vec<u8>,
-) -> Result<u8, AllocError> {
-    let request = show_of(rt.alloc(), file, key)?;
-    Ok(run_show(rt, &request, out, err))
-}
-
-/// The same of a standard input of these bytes.
-fn shown_input<R: AllocGlobal + Files>(
-    rt: &R,
-    mut bytes: &[u8],
-    key: &str,
-    out: &mut Vec<u8>,
-    err: &mut Vec<u8>,
-) -> Result<u8, AllocError> {
-    let request = show_of(rt.alloc(), "-", key)?;
-    Ok(show_with(rt, &mut bytes, &request, out, err))
-}
-
-/// Whether the picture is one element. It is removed.
-fn is_drawn<R: AllocGlobal + Files>(rt: &R) -> Result<bool, Fail> {
-    let picture: Vec<u8> = fs::read(rt, "judged.svg")?;
-    fs::remove_file(rt, "judged.svg")?;
-    Ok(picture.starts_with(b"<svg ") && picture.ends_with(b"</svg>\n"))
-}
-
-/// Whether a step gives what is written beside it.
-fn is_met<R: AllocGlobal + Files + Input + RandomSource>(
-    rt: &R,
-    step: &Step,
-    out: &mut Vec<u8>,
-    err: &mut Vec<u8>,
-) -> Result<bool, Fail> {
-    match *step {
-        Step::Judge(file, status) => Ok(judged(rt, file, out, err)? == status),
-        Step::Check(file, status) => Ok(checked(rt, file, out, err)? == status),
-        Step::Show(file, key, status) => Ok(shown(rt, file, key, out, err)? == status),
-        Step::JudgeInput(bytes, status) => Ok(judged_input(rt, bytes, out, err)? == status),
-        Step::JudgeAtLeast(bytes, at_least, status) => {
-            Ok(judged_at_least(rt, bytes, at_least, out, err)? == status)
-        }
-        Step::JudgeSkewed(bytes, skew, status) => {
-            Ok(judged_skewed(rt, bytes, skew, out, err)? == status)
-        }
-        Step::JudgeKeys(bytes, part, status) => {
-            Ok(judged_keys(rt, bytes, part, out, err)? == status)
-        }
-        Step::CheckInput(bytes, status) => Ok(checked_input(rt, bytes, out, err)? == status),
-        Step::ShowInput(bytes, key, status) => {
-            Ok(shown_input(rt, bytes, key, out, err)? == status)
-        }
-        Step::Write(file, bytes) => Ok(fs::write(rt, file, bytes).is_ok()),
-        Step::Remove(file) => Ok(fs::remove_file(rt, file).is_ok()),
-        Step::NoPicture => Ok(fs::open(rt, "judged.svg").is_err()),
-        Step::Picture => is_drawn(rt),
-    }
-}
-
-/// The number of the first step that gives something else than is written.
-fn strayed<R: AllocGlobal + Files + Input + RandomSource>(
-    rt: &R,
-    out: &mut Vec<u8>,
-    err: &mut Vec<u8>,
-) -> Result<Option<usize>, Fail> {
-    for number in 0..STEPS.len() {
-        if !is_met(rt, &STEPS[number], out, err)? {
-            return Ok(Some(number));
-        }
-    }
-    Ok(None)
-}
-
 #[test]
 fn files_are_read_and_what_is_wanted_is_written(rt: HostRuntime) -> Result<(), Fail> {
-    let mut out: Vec<u8> = Vec::new(rt.alloc());
-    let mut told: Vec<u8> = Vec::new(rt.alloc());
-    assert!(rt; strayed(&rt, &mut out, &mut told)?.is_none());
-    assert!(rt; out.as_slice() == WRITTEN.as_bytes());
-    assert!(rt; told.as_slice() == TOLD.as_bytes());
-    Ok(())
+    run_cases(&rt, STEPS)
 }

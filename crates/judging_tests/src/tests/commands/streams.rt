@@ -1,7 +1,7 @@
 // Readers and writers that fail.
-use super::answers::{EVERYTHING, checked, judged};
+use crate::tests::judging::{checked, judged};
 use figures::Form;
-use judge_run::{Outcome, Scope, ShowRequest, TellFault, show_with};
+use judge_run::{Detail, JudgeEnd, Scope, ShowRequest, TellFault, show_with};
 use std::alloc::{AllocError, Global};
 use std::io;
 use std::io::{Error, ErrorKind, Read, Write};
@@ -48,7 +48,20 @@ fn fault_of_text<R: Read, W: Write>(
     reader: &mut R,
     writer: &mut W,
 ) -> Option<TellFault> {
-    judged(alloc, Form::Lines, Scope::WHOLE, EVERYTHING, reader, writer).err()
+    let everything = Detail {
+        explain: true,
+        all: true,
+    };
+    judged(
+        alloc,
+        Form::Lines,
+        Scope::WHOLE,
+        everything,
+        0,
+        reader,
+        writer,
+    )
+    .err()
 }
 
 /// Whether a text that is not read is a fault, and nothing is told.
@@ -67,20 +80,12 @@ fn is_unwritten_verdict_told(alloc: Global) -> bool {
     fault == Some(TellFault::WriteFault) && writer.calls == 2
 }
 
-/// Whether a trace was told to be bad.
-fn is_bad(outcome: &Result<Outcome, TellFault>) -> bool {
-    match outcome {
-        Ok(Outcome::BadTrace(_)) => true,
-        _ => false,
-    }
-}
-
 /// Whether a trace that is not read is a bad one.
 fn is_unread_trace_bad(alloc: Global) -> bool {
     let mut told: Vec<u8> = Vec::new(alloc);
     let mut reader = unasked();
-    let outcome = checked(alloc, Form::Lines, true, &mut reader, &mut told);
-    is_bad(&outcome)
+    let end = checked(alloc, Form::Lines, true, &mut reader, &mut told);
+    end == Ok(JudgeEnd::BadInput)
         && reader.calls == 1
         && told.as_slice() == b"bad trace ReadFault at 0\n".as_slice()
 }

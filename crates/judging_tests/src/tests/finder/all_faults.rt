@@ -1,268 +1,66 @@
-// All that is wrong with histories made by hand.
-use super::telling::{Did, Row, history_of};
-use certificate_finder::{
-    CrossedWrites, Excluded, Excuse, Faults, Found, UnreadHit, Witness, WrongHit, find, find_faults,
-};
-use std::alloc::Global;
+//! All that is wrong with histories made by hand.
+use crate::tests::made::play;
 use std::test::Fail;
-use trace_file::History;
 
-/// What is wrong with a history: the calls that end before they start, the wrong hits, the crossed writes, two by two, and the hits
-/// that would cross two writes whichever of several puts they read.
-#[derive(Clone, Copy)]
-struct Wrong {
-    rows: &'static [Row],
-    reversed: &'static [u32],
-    hits: &'static [u32],
-    crossed: &'static [(u32, u32)],
-    unread: &'static [u32],
-}
-
-static HISTORIES: [Wrong; 7] = [
-    // Nothing.
-    Wrong {
-        rows: &[(1, 0, 1, Did::Put(1)), (1, 2, 3, Did::Hit(1))],
-        reversed: &[],
-        hits: &[],
-        crossed: &[],
-        unread: &[],
-    },
-    // Hits that were put never, too late, and written over: the first in the history ends last, and two end at one stamp.
-    Wrong {
-        rows: &[
-            (1, 10, 11, Did::Hit(9)),
-            (1, 0, 1, Did::Put(1)),
-            (1, 2, 3, Did::Put(2)),
-            (1, 4, 5, Did::Hit(1)),
-            (2, 3, 5, Did::Hit(3)),
-            (1, 6, 7, Did::Hit(2)),
-            (2, 6, 8, Did::Put(3)),
-            (2, 9, 9, Did::Hit(3)),
-        ],
-        reversed: &[],
-        hits: &[3, 4, 0],
-        crossed: &[],
-        unread: &[],
-    },
-    // Calls that end before they start, beside a hit that has expired.
-    Wrong {
-        rows: &[
-            (1, 9, 7, Did::Miss),
-            (2, 0, 1, Did::Expiring(1, 5)),
-            (2, 2, 3, Did::HitAt(1, 5)),
-            (2, 2, 3, Did::HitAt(1, 4)),
-            (3, 1, 0, Did::Put(1)),
-        ],
-        reversed: &[0, 4],
-        hits: &[2],
-        crossed: &[],
-        unread: &[],
-    },
-    // At two keys writes that are crossed, at the second one three of them; a wrong hit of each key hides none.
-    Wrong {
-        rows: &[
-            (1, 0, 9, Did::Put(1)),
-            (1, 0, 9, Did::Put(2)),
-            (1, 1, 2, Did::Hit(1)),
-            (1, 3, 3, Did::Hit(2)),
-            (1, 5, 6, Did::Hit(1)),
-            (1, 7, 8, Did::Hit(3)),
-            (2, 0, 9, Did::Put(1)),
-            (2, 0, 9, Did::Put(2)),
-            (2, 0, 9, Did::Put(3)),
-            (2, 1, 2, Did::Hit(1)),
-            (2, 2, 3, Did::Hit(2)),
-            (2, 3, 3, Did::Hit(3)),
-            (2, 5, 9, Did::Hit(1)),
-            (2, 6, 6, Did::Hit(3)),
-            (2, 4, 4, Did::Hit(4)),
-        ],
-        reversed: &[],
-        hits: &[14, 5],
-        crossed: &[(1, 0), (6, 8)],
-        unread: &[],
-    },
-    // A value of one put is read, then one of two puts, then the first one again: nothing is sure.
-    Wrong {
-        rows: &[
-            (1, 0, 9, Did::Put(1)),
-            (1, 0, 9, Did::Put(1)),
-            (1, 0, 9, Did::Put(2)),
-            (1, 1, 2, Did::Hit(2)),
-            (1, 3, 4, Did::Hit(1)),
-            (1, 5, 6, Did::Hit(2)),
-        ],
-        reversed: &[],
-        hits: &[],
-        crossed: &[],
-        unread: &[4],
-    },
-    // The same at two keys, beside a wrong hit; the hit of the second key ends first, and another one there reads a put that is free.
-    Wrong {
-        rows: &[
-            (1, 0, 19, Did::Put(1)),
-            (1, 0, 19, Did::Put(1)),
-            (1, 0, 19, Did::Put(2)),
-            (1, 11, 12, Did::Hit(2)),
-            (1, 13, 14, Did::Hit(1)),
-            (1, 15, 16, Did::Hit(2)),
-            (2, 0, 9, Did::Put(1)),
-            (2, 0, 9, Did::Put(1)),
-            (2, 0, 9, Did::Put(2)),
-            (2, 1, 2, Did::Hit(2)),
-            (2, 3, 4, Did::Hit(1)),
-            (2, 5, 6, Did::Hit(2)),
-            (2, 8, 9, Did::Hit(1)),
-            (3, 17, 18, Did::Hit(7)),
-        ],
-        reversed: &[],
-        hits: &[13],
-        crossed: &[],
-        unread: &[10, 4],
-    },
-    // Two puts of one value that are crossed by hits with moments at which only one of them is live: the third hit, which both fit, is
-    // listed too.
-    Wrong {
-        rows: &[
-            (1, 0, 9, Did::Expiring(1, 5)),
-            (1, 0, 9, Did::Put(2)),
-            (1, 0, 9, Did::Put(1)),
-            (1, 1, 1, Did::HitAt(1, 7)),
-            (1, 2, 2, Did::Hit(2)),
-            (1, 4, 4, Did::HitAt(1, 7)),
-            (1, 3, 3, Did::HitAt(1, 2)),
-            (1, 5, 5, Did::Hit(2)),
-        ],
-        reversed: &[],
-        hits: &[],
-        crossed: &[(2, 1)],
-        unread: &[6],
-    },
-];
-
-/// Whether these are the hits at these positions.
-fn are_hits(hits: &[WrongHit], want: &[u32]) -> bool {
-    if hits.len() != want.len() {
-        return false;
-    }
-    for index in 0..hits.len() {
-        if hits[index].hit != want[index] {
-            return false;
-        }
-    }
-    true
-}
-
-/// Whether these are the hits at these positions that would cross two writes.
-fn are_unread(hits: &[UnreadHit], want: &[u32]) -> bool {
-    if hits.len() != want.len() {
-        return false;
-    }
-    for index in 0..hits.len() {
-        if hits[index].hit != want[index] {
-            return false;
-        }
-    }
-    true
-}
-
-/// Whether these are the writes at these positions.
-fn are_crossed(crossed: &[CrossedWrites], want: &[(u32, u32)]) -> bool {
-    if crossed.len() != want.len() {
-        return false;
-    }
-    for index in 0..crossed.len() {
-        let writes = crossed[index];
-        if (writes.one.write, writes.other.write) != want[index] {
-            return false;
-        }
-    }
-    true
-}
-
-/// Whether this is wrong with a history, and nothing else.
-fn are_faults(faults: &Faults, want: &Wrong) -> bool {
-    faults.reversed.as_slice() == want.reversed
-        && are_hits(faults.hits.as_slice(), want.hits)
-        && are_crossed(faults.crossed.as_slice(), want.crossed)
-        && are_unread(faults.unread.as_slice(), want.unread)
-}
+/// After each history the calls that end before they start, the wrong hits, the crossed writes, two by two, and the hits that would
+/// cross two writes whichever of several puts they read.
+static HISTORIES: &[u8] = b"
+    # Nothing.
+    new; 0 0 1 put k v1; 0 2 3 hit k v1
+    list reversed hits crossed unread
+    # Hits that were put never, too late, and written over: the first in the history ends last, and two end at one stamp.
+    new; 0 10 11 hit k v9; 0 0 1 put k v1; 0 2 3 put k v2; 0 4 5 hit k v1; 0 3 5 hit j v3; 0 6 7 hit k v2; 0 6 8 put j v3
+    0 9 9 hit j v3
+    list reversed hits 3 4 0 crossed unread
+    # Calls that end before they start, beside a hit that has expired.
+    new; 0 9 7 miss k; 0 0 1 put j v1 5; 0 2 3 hit j v1 5; 0 2 3 hit j v1 4; 0 1 0 put i v1
+    list reversed 0 4 hits 2 crossed unread
+    # At two keys writes that are crossed, at the second one three of them; a wrong hit of each key hides none.
+    new; 0 0 9 put k v1; 0 0 9 put k v2; 0 1 2 hit k v1; 0 3 3 hit k v2; 0 5 6 hit k v1; 0 7 8 hit k v3; 0 0 9 put j v1; 0 0 9 put j v2
+    0 0 9 put j v3; 0 1 2 hit j v1; 0 2 3 hit j v2; 0 3 3 hit j v3; 0 5 9 hit j v1; 0 6 6 hit j v3; 0 4 4 hit j v4
+    list reversed hits 14 5 crossed 1 0 6 8 unread
+    # A value of one put is read, then one of two puts, then the first one again: nothing is sure.
+    new; 0 0 9 put k v1; 0 0 9 put k v1; 0 0 9 put k v2; 0 1 2 hit k v2; 0 3 4 hit k v1; 0 5 6 hit k v2
+    list reversed hits crossed unread 4
+    # The same at two keys, beside a wrong hit; the hit of the second key ends first, and another one there reads a put that is free.
+    new; 0 0 19 put k v1; 0 0 19 put k v1; 0 0 19 put k v2; 0 11 12 hit k v2; 0 13 14 hit k v1; 0 15 16 hit k v2; 0 0 9 put j v1
+    0 0 9 put j v1; 0 0 9 put j v2; 0 1 2 hit j v2; 0 3 4 hit j v1; 0 5 6 hit j v2; 0 8 9 hit j v1; 0 17 18 hit i v7
+    list reversed hits 13 crossed unread 10 4
+    # Two puts of one value that are crossed by hits with moments at which only one of them is live: the third hit, which both fit, is
+    # listed too.
+    new; 0 0 9 put k v1 5; 0 0 9 put k v2; 0 0 9 put k v1; 0 1 1 hit k v1 7; 0 2 2 hit k v2; 0 4 4 hit k v1 7; 0 3 3 hit k v1 2
+    0 5 5 hit k v2
+    list reversed hits crossed 2 1 unread 6
+";
 
 #[test]
 fn each_fault_is_told_once_in_order(rt: HostRuntime) -> Result<(), Fail> {
-    for wrong in HISTORIES.iter() {
-        let history = history_of(rt.alloc(), wrong.rows)?;
-        let faults = find_faults(rt.alloc(), &history, usize::MAX)?;
-        assert!(rt; are_faults(&faults, wrong));
-    }
-    Ok(())
+    play(rt.alloc(), HISTORIES)
 }
 
-/// The position of the hit that is told, or none if another reason is, or no reason.
-fn told_hit(alloc: Global, history: &History) -> Result<Option<u32>, Fail> {
-    match find(alloc, history)? {
-        Found::Rejected(Witness::Hit(hit, _)) => Ok(Some(hit)),
-        _ => Ok(None),
-    }
-}
-
-#[test]
-fn the_hit_that_ends_first_is_told(rt: HostRuntime) -> Result<(), Fail> {
-    let history = history_of(rt.alloc(), HISTORIES[1].rows)?;
-    assert!(rt; told_hit(rt.alloc(), &history)? == Some(3));
-    Ok(())
-}
-
-/// Whether a hit is told with this put alone, and this excuse.
-fn has_excuse(hits: &[WrongHit], index: usize, put: u32, why: Excuse) -> bool {
-    match hits.get(index) {
-        Some(wrong) => wrong.puts.as_slice() == [Excluded { put, why }].as_slice(),
-        None => false,
-    }
-}
+/// The hit that ends first is told. Each wrong hit has what excludes its put.
+static HITS: &[u8] = b"
+    new; 0 10 11 hit k v9; 0 0 1 put k v1; 0 2 3 put k v2; 0 4 5 hit k v1; 0 3 5 hit j v3; 0 6 7 hit k v2; 0 6 8 put j v3
+    0 9 9 hit j v3
+    find-at hit 3
+    puts 18446744073709551615 hit 3 put 1 over 2 late 1 hit 4 put 6 later hit 0
+";
 
 #[test]
 fn each_wrong_hit_has_what_excludes_its_put(rt: HostRuntime) -> Result<(), Fail> {
-    let history = history_of(rt.alloc(), HISTORIES[1].rows)?;
-    let faults = find_faults(rt.alloc(), &history, usize::MAX)?;
-    let hits = faults.hits.as_slice();
-    assert!(rt; has_excuse(hits, 0, 1, Excuse::Replaced(2)));
-    assert!(rt; has_excuse(hits, 1, 6, Excuse::Later));
-    Ok(())
+    play(rt.alloc(), HITS)
 }
 
-/// A value that is put four times, then removed, and read after that; a value that expires, and one that is put too late.
-static REPEATED: [Row; 10] = [
-    (1, 0, 1, Did::Put(1)),
-    (1, 2, 3, Did::Put(1)),
-    (1, 4, 5, Did::Put(1)),
-    (1, 40, 50, Did::Put(1)),
-    (1, 10, 20, Did::Remove),
-    (1, 30, 31, Did::Hit(1)),
-    (2, 0, 1, Did::Expiring(1, 5)),
-    (2, 30, 31, Did::HitAt(1, 5)),
-    (3, 30, 32, Did::Hit(1)),
-    (3, 40, 50, Did::Put(1)),
-];
+/// A value that is put four times, then removed, and read after that; a value that expires, and one that is put too late. Of the puts
+/// of a wrong hit the first so many are listed, and how late it is is by all of them.
+static REPEATED: &[u8] = b"
+    new; 0 0 1 put k v1; 0 2 3 put k v1; 0 4 5 put k v1; 0 40 50 put k v1; 0 10 20 remove k; 0 30 31 hit k v1; 0 0 1 put j v1 5
+    0 30 31 hit j v1 5; 0 30 32 hit i v1; 0 40 50 put i v1
+    puts 2 hit 5 put 0 over 1 put 1 over 2 late 10 hit 7 put 6 expired hit 8 put 9 later
+    puts 0 hit 5 late 10 hit 7 hit 8
+";
 
-/// Whether a hit is listed with so many of its puts, the first of them at this position, and is so late.
-fn is_listed(wrong: &WrongHit, count: usize, first: Option<u32>, late: Option<u64>) -> bool {
-    let shown = wrong.puts.first().map(|excluded| excluded.put);
-    wrong.puts.len() == count && shown == first && wrong.late == late
-}
-
-/// Of the puts of a wrong hit the first so many are listed, and how late it is is by all of them.
 #[test]
 fn a_wrong_hit_has_the_first_of_its_puts(rt: HostRuntime) -> Result<(), Fail> {
-    let history = history_of(rt.alloc(), &REPEATED)?;
-    let faults = find_faults(rt.alloc(), &history, 2)?;
-    let hits = faults.hits.as_slice();
-    assert!(rt; hits.len() == 3);
-    assert!(rt; is_listed(&hits[0], 2, Some(0), Some(10)));
-    assert!(rt; is_listed(&hits[1], 1, Some(6), None));
-    assert!(rt; is_listed(&hits[2], 1, Some(9), None));
-    let none = find_faults(rt.alloc(), &history, 0)?;
-    assert!(rt; none.hits.len() == 3);
-    assert!(rt; is_listed(&none.hits[0], 0, None, Some(10)));
-    Ok(())
+    play(rt.alloc(), REPEATED)
 }

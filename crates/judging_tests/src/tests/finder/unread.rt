@@ -1,180 +1,43 @@
-// Hits that several puts fit, and that would cross two writes whichever of them they read.
-use super::telling::{Did, Row, Want, found, history_of};
-use certificate_finder::{Found, UnreadHit, Witness, find};
-use std::alloc::Global;
+//! Hits that several puts fit, and that would cross two writes whichever of them they read.
+use crate::tests::made::play;
 use std::test::Fail;
-use trace_file::History;
 
-/// A hit, and for each put that it can have read the put with the write that it would be crossed with.
-type Unread = (u32, &'static [(u32, u32)]);
-
-/// A history, what is found for it, and the hit that can have read none of its puts, if there is one.
-type Doubtful = (&'static [Row], Want, Option<Unread>);
-
-static HISTORIES: [Doubtful; 9] = [
-    // The hit of 1 stands between two hits of 2, which read one put, and it can have read two puts.
-    (
-        &[
-            (1, 0, 9, Did::Put(1)),
-            (1, 1, 9, Did::Put(1)),
-            (1, 0, 9, Did::Put(2)),
-            (1, 1, 2, Did::Hit(2)),
-            (1, 3, 4, Did::Hit(1)),
-            (1, 5, 6, Did::Hit(2)),
-        ],
-        Want::Unread,
-        Some((4, &[(1, 2), (0, 2)])),
-    ),
-    // It ends as late as the second of them starts.
-    (
-        &[
-            (1, 0, 9, Did::Put(1)),
-            (1, 1, 9, Did::Put(1)),
-            (1, 0, 9, Did::Put(2)),
-            (1, 1, 2, Did::Hit(2)),
-            (1, 3, 5, Did::Hit(1)),
-            (1, 5, 6, Did::Hit(2)),
-        ],
-        Want::Accepted,
-        None,
-    ),
-    // One of its puts has been read by another hit alone, so that two hits of one put stand around the two hits of 2.
-    (
-        &[
-            (1, 0, 9, Did::Expiring(1, 5)),
-            (1, 0, 9, Did::Put(1)),
-            (1, 0, 9, Did::Put(2)),
-            (1, 1, 1, Did::HitAt(1, 7)),
-            (1, 2, 2, Did::Hit(2)),
-            (1, 4, 4, Did::Hit(2)),
-            (1, 3, 3, Did::HitAt(1, 2)),
-        ],
-        Want::Unread,
-        Some((6, &[(1, 2), (0, 2)])),
-    ),
-    // The same calls at two keys: the second hit of 1 is at the other key, and reads its put there.
-    (
-        &[
-            (1, 0, 9, Did::Put(1)),
-            (1, 1, 9, Did::Put(1)),
-            (1, 0, 9, Did::Put(2)),
-            (2, 1, 2, Did::Hit(2)),
-            (1, 3, 4, Did::Hit(1)),
-            (1, 5, 6, Did::Hit(2)),
-            (2, 0, 9, Did::Put(2)),
-        ],
-        Want::Accepted,
-        None,
-    ),
-    // At one key such a hit, at another a wrong one, which is told although it comes later.
-    (
-        &[
-            (1, 0, 9, Did::Put(1)),
-            (1, 1, 9, Did::Put(1)),
-            (1, 0, 9, Did::Put(2)),
-            (1, 1, 2, Did::Hit(2)),
-            (1, 3, 4, Did::Hit(1)),
-            (1, 5, 6, Did::Hit(2)),
-            (2, 7, 8, Did::Hit(3)),
-        ],
-        Want::Hit,
-        None,
-    ),
-    // At one key such a hit, at another crossed writes, which are told.
-    (
-        &[
-            (1, 0, 9, Did::Put(1)),
-            (1, 1, 9, Did::Put(1)),
-            (1, 0, 9, Did::Put(2)),
-            (1, 1, 2, Did::Hit(2)),
-            (1, 3, 4, Did::Hit(1)),
-            (1, 5, 6, Did::Hit(2)),
-            (2, 10, 19, Did::Put(1)),
-            (2, 10, 19, Did::Put(2)),
-            (2, 11, 12, Did::Hit(1)),
-            (2, 13, 13, Did::Hit(2)),
-            (2, 15, 16, Did::Hit(1)),
-        ],
-        Want::Crossed,
-        None,
-    ),
-    // At each of two keys such a hit: that of the second one ends first, and is told.
-    (
-        &[
-            (1, 0, 19, Did::Put(1)),
-            (1, 1, 19, Did::Put(1)),
-            (1, 0, 19, Did::Put(2)),
-            (1, 11, 12, Did::Hit(2)),
-            (1, 13, 14, Did::Hit(1)),
-            (1, 15, 16, Did::Hit(2)),
-            (2, 0, 9, Did::Put(1)),
-            (2, 1, 9, Did::Put(1)),
-            (2, 0, 9, Did::Put(2)),
-            (2, 1, 2, Did::Hit(2)),
-            (2, 3, 4, Did::Hit(1)),
-            (2, 5, 6, Did::Hit(2)),
-        ],
-        Want::Unread,
-        Some((10, &[(7, 8), (6, 8)])),
-    ),
-    // No hit is such, and there is no order: two hits of 1 read two of three puts, and each may be either.
-    (
-        &[
-            (1, 0, 19, Did::Put(1)),
-            (1, 0, 19, Did::Put(1)),
-            (1, 0, 19, Did::Put(2)),
-            (1, 0, 19, Did::Put(3)),
-            (1, 1, 1, Did::Hit(1)),
-            (1, 3, 3, Did::Hit(2)),
-            (1, 5, 5, Did::Hit(1)),
-            (1, 7, 7, Did::Hit(3)),
-            (1, 9, 9, Did::Hit(1)),
-        ],
-        Want::Undecided,
-        None,
-    ),
-    // Each hit can have read one put.
-    (
-        &[(1, 0, 1, Did::Put(1)), (1, 2, 3, Did::Hit(1))],
-        Want::Accepted,
-        None,
-    ),
-];
-
-/// Whether a hit is the wanted one, with these crossings.
-fn is_wanted(unread: &UnreadHit, want: Unread) -> bool {
-    let (hit, crossed) = want;
-    if unread.hit != hit || unread.reads.len() != crossed.len() {
-        return false;
-    }
-    for index in 0..crossed.len() {
-        let writes = unread.reads[index];
-        if (writes.one.write, writes.other.write) != crossed[index] {
-            return false;
-        }
-    }
-    true
-}
-
-/// The unread hit that is told, if one is.
-fn told(alloc: Global, history: &History) -> Result<Option<UnreadHit>, Fail> {
-    match find(alloc, history)? {
-        Found::Rejected(Witness::Unread(unread)) => Ok(Some(unread)),
-        _ => Ok(None),
-    }
-}
+/// Such a hit is told with its position, and for each put that it can have read with that put and the write that it would be crossed
+/// with.
+static HISTORIES: &[u8] = b"
+    # The hit of v1 stands between two hits of v2, which read one put, and it can have read two puts.
+    new; 0 0 9 put k v1; 0 1 9 put k v1; 0 0 9 put k v2; 0 1 2 hit k v2; 0 3 4 hit k v1; 0 5 6 hit k v2
+    find-at unread 4 1 2 0 2
+    # It ends as late as the second of them starts.
+    new; 0 0 9 put k v1; 0 1 9 put k v1; 0 0 9 put k v2; 0 1 2 hit k v2; 0 3 5 hit k v1; 0 5 6 hit k v2
+    find accepted
+    # One of its puts has been read by another hit alone, so that two hits of one put stand around the two hits of v2.
+    new; 0 0 9 put k v1 5; 0 0 9 put k v1; 0 0 9 put k v2; 0 1 1 hit k v1 7; 0 2 2 hit k v2; 0 4 4 hit k v2; 0 3 3 hit k v1 2
+    find-at unread 6 1 2 0 2
+    # The same calls at two keys: the second hit of v1 is at the other key, and reads its put there.
+    new; 0 0 9 put k v1; 0 1 9 put k v1; 0 0 9 put k v2; 0 1 2 hit j v2; 0 3 4 hit k v1; 0 5 6 hit k v2; 0 0 9 put j v2
+    find accepted
+    # At one key such a hit, at another a wrong one, which is told although it comes later.
+    new; 0 0 9 put k v1; 0 1 9 put k v1; 0 0 9 put k v2; 0 1 2 hit k v2; 0 3 4 hit k v1; 0 5 6 hit k v2; 0 7 8 hit j v3
+    find hit
+    # At one key such a hit, at another crossed writes, which are told.
+    new; 0 0 9 put k v1; 0 1 9 put k v1; 0 0 9 put k v2; 0 1 2 hit k v2; 0 3 4 hit k v1; 0 5 6 hit k v2; 0 10 19 put j v1
+    0 10 19 put j v2; 0 11 12 hit j v1; 0 13 13 hit j v2; 0 15 16 hit j v1
+    find crossed
+    # At each of two keys such a hit: that of the second one ends first, and is told.
+    new; 0 0 19 put k v1; 0 1 19 put k v1; 0 0 19 put k v2; 0 11 12 hit k v2; 0 13 14 hit k v1; 0 15 16 hit k v2; 0 0 9 put j v1
+    0 1 9 put j v1; 0 0 9 put j v2; 0 1 2 hit j v2; 0 3 4 hit j v1; 0 5 6 hit j v2
+    find-at unread 10 7 8 6 8
+    # No hit is such, and there is no order: two hits of v1 read two of three puts, and each may be either.
+    new; 0 0 19 put k v1; 0 0 19 put k v1; 0 0 19 put k v2; 0 0 19 put k v3; 0 1 1 hit k v1; 0 3 3 hit k v2; 0 5 5 hit k v1
+    0 7 7 hit k v3; 0 9 9 hit k v1
+    find undecided
+    # Each hit can have read one put.
+    new; 0 0 1 put k v1; 0 2 3 hit k v1
+    find accepted
+";
 
 #[test]
 fn a_hit_that_would_cross_two_writes_in_any_case_is_found(rt: HostRuntime) -> Result<(), Fail> {
-    for (row, (rows, want, unread)) in HISTORIES.iter().enumerate() {
-        let history = history_of(rt.alloc(), *rows)?;
-        let is = found(rt.alloc(), &history)?;
-        assert!(rt; is == Some(*want), "row {row}");
-        match (told(rt.alloc(), &history)?, *unread) {
-            (Some(hit), Some(wanted)) => assert!(rt; is_wanted(&hit, wanted), "row {row}"),
-            (None, None) => {}
-            (_, _) => return Err(Fail::new(format_args!("row {row}"))),
-        }
-    }
-    Ok(())
+    play(rt.alloc(), HISTORIES)
 }

@@ -1,154 +1,64 @@
-// Histories whose cache was filled before they begin.
-use super::telling::{Did, Row, Want, found, history_of};
-use certificate_finder::{WARM_CALLER, warm};
-use record_pages::NEVER;
+//! Histories whose cache was filled before they begin.
+use crate::tests::made::play;
 use std::test::Fail;
-use trace_file::{ActRef, CallRef};
 
-/// A history, the hits whose values are taken as there from the start, and what is found then.
-type Begun = (&'static [Row], &'static [u32], Want);
-
-static HISTORIES: [Begun; 15] = [
-    // Nothing is added where each value was put.
-    (
-        &[
-            (1, 1, 2, Did::Put(1)),
-            (1, 3, 4, Did::Hit(1)),
-            (2, 0, 0, Did::Miss),
-        ],
-        &[],
-        Want::Accepted,
-    ),
-    // A value that nobody put, asked for at the last moment.
-    (
-        &[(1, 3, 4, Did::Hit(7)), (1, 0, 9, Did::HitAt(7, NEVER))],
-        &[1],
-        Want::Accepted,
-    ),
-    // Two such values of a key: that of the hit which starts first, then that of the first line.
-    (
-        &[(1, 9, 9, Did::Hit(8)), (1, 5, 9, Did::Hit(7))],
-        &[1],
-        Want::Hit,
-    ),
-    (
-        &[(1, 5, 9, Did::Hit(7)), (1, 5, 5, Did::Hit(8))],
-        &[0],
-        Want::Hit,
-    ),
-    // A put or a removal of the key ended before the hit started.
-    (
-        &[(1, 0, 1, Did::Put(1)), (1, 2, 3, Did::Hit(7))],
-        &[],
-        Want::Hit,
-    ),
-    (
-        &[(1, 2, 3, Did::Hit(7)), (1, 0, 1, Did::Remove)],
-        &[],
-        Want::Hit,
-    ),
-    // It ended as the hit started, and it is of another key.
-    (
-        &[(1, 1, 2, Did::Remove), (1, 2, 3, Did::Hit(7))],
-        &[1],
-        Want::Accepted,
-    ),
-    (
-        &[(2, 0, 1, Did::Remove), (1, 2, 3, Did::Hit(7))],
-        &[1],
-        Want::Accepted,
-    ),
-    // A put goes on while the hit starts.
-    (
-        &[
-            (1, 1, 4, Did::Put(1)),
-            (1, 2, 3, Did::Hit(7)),
-            (1, 5, 6, Did::Hit(1)),
-        ],
-        &[1],
-        Want::Accepted,
-    ),
-    // A stale hit stays one: its value was put and replaced, or put later.
-    (
-        &[
-            (1, 1, 2, Did::Put(1)),
-            (1, 3, 4, Did::Put(2)),
-            (1, 5, 6, Did::Hit(1)),
-        ],
-        &[],
-        Want::Hit,
-    ),
-    (
-        &[(1, 1, 2, Did::Hit(1)), (1, 5, 6, Did::Put(1))],
-        &[],
-        Want::Hit,
-    ),
-    // What was there from the start is replaced, and read once more.
-    (
-        &[
-            (1, 1, 1, Did::Hit(7)),
-            (1, 2, 3, Did::Put(1)),
-            (1, 4, 5, Did::Hit(7)),
-        ],
-        &[0],
-        Want::Hit,
-    ),
-    // The value was put at another key.
-    (
-        &[
-            (1, 1, 1, Did::Hit(7)),
-            (2, 0, 0, Did::Put(7)),
-            (2, 3, 3, Did::Hit(7)),
-        ],
-        &[0],
-        Want::Accepted,
-    ),
-    // A put of each key, in the order of the hits.
-    (
-        &[
-            (3, 2, 2, Did::Hit(7)),
-            (1, 1, 1, Did::Hit(7)),
-            (3, 1, 1, Did::Hit(7)),
-            (2, 9, 9, Did::Hit(8)),
-        ],
-        &[1, 2, 3],
-        Want::Accepted,
-    ),
-    (&[], &[], Want::Accepted),
-];
+/// Once a history is warmed it has one call more for each hit whose value is taken as there from the start.
+static HISTORIES: &[u8] = b"
+    # Nothing is added where each value was put.
+    new; 0 1 2 put k v1; 0 3 4 hit k v1; 0 0 0 miss j
+    warm; count 3; find accepted
+    # A value that nobody put, asked for at the last moment.
+    new; 0 3 4 hit k v7; 0 0 9 hit k v7 18446744073709551615
+    warm 1; count 3; find accepted
+    # Two such values of a key: that of the hit which starts first, then that of the first line.
+    new; 0 9 9 hit k v8; 0 5 9 hit k v7
+    warm 1; count 3; find hit
+    new; 0 5 9 hit k v7; 0 5 5 hit k v8
+    warm 0; count 3; find hit
+    # A put or a removal of the key ended before the hit started.
+    new; 0 0 1 put k v1; 0 2 3 hit k v7
+    warm; count 2; find hit
+    new; 0 2 3 hit k v7; 0 0 1 remove k
+    warm; count 2; find hit
+    # It ended as the hit started, and it is of another key.
+    new; 0 1 2 remove k; 0 2 3 hit k v7
+    warm 1; count 3; find accepted
+    new; 0 0 1 remove j; 0 2 3 hit k v7
+    warm 1; count 3; find accepted
+    # A put goes on while the hit starts.
+    new; 0 1 4 put k v1; 0 2 3 hit k v7; 0 5 6 hit k v1
+    warm 1; count 4; find accepted
+    # A stale hit stays one: its value was put and replaced, or put later.
+    new; 0 1 2 put k v1; 0 3 4 put k v2; 0 5 6 hit k v1
+    warm; count 3; find hit
+    new; 0 1 2 hit k v1; 0 5 6 put k v1
+    warm; count 2; find hit
+    # What was there from the start is replaced, and read once more.
+    new; 0 1 1 hit k v7; 0 2 3 put k v1; 0 4 5 hit k v7
+    warm 0; count 4; find hit
+    # The value was put at another key.
+    new; 0 1 1 hit k v7; 0 0 0 put j v7; 0 3 3 hit j v7
+    warm 0; count 4; find accepted
+    # A put of each key, in the order of the hits.
+    new; 0 2 2 hit i v7; 0 1 1 hit k v7; 0 1 1 hit i v7; 0 9 9 hit j v8
+    warm 1 2 3; count 7; find accepted
+    new
+    warm; count 0; find accepted
+";
 
 #[test]
 fn what_is_found_once_a_history_is_warmed(rt: HostRuntime) -> Result<(), Fail> {
-    for (row, (rows, hits, want)) in HISTORIES.iter().enumerate() {
-        let warmed = warm(rt.alloc(), history_of(rt.alloc(), *rows)?)?;
-        assert!(rt; warmed.hits.as_slice() == *hits, "row {row}");
-        let count = warmed.history.len();
-        assert!(rt; count == rows.len() + hits.len(), "row {row}: {count}");
-        let is = found(rt.alloc(), &warmed.history)?;
-        assert!(rt; is == Some(*want), "row {row}");
-    }
-    Ok(())
+    play(rt.alloc(), HISTORIES)
 }
 
-/// Whether a call is the put of a value before all others.
-fn is_warm_put(call: &CallRef<'_>, key: &[u8], value: &[u8]) -> bool {
-    let ActRef::Put(bytes, expires) = call.act else {
-        return false;
-    };
-    call.caller == WARM_CALLER
-        && call.start == 0
-        && call.end == 0
-        && call.key == key
-        && bytes == value
-        && expires == NEVER
-}
+static ADDED: &[u8] = b"
+    0 1 2 put h v1; 0 4 6 hit i v7 9
+    warm 1; count 3
+    show 1 0 4 6 hit i v7 9
+    show 2 65535 0 0 put i v7 18446744073709551615
+";
 
 #[test]
 fn the_puts_that_are_added_come_last(rt: HostRuntime) -> Result<(), Fail> {
-    let rows = [(5, 1, 2, Did::Put(1)), (3, 4, 6, Did::HitAt(7, 9))];
-    let warmed = warm(rt.alloc(), history_of(rt.alloc(), rows.as_slice())?)?;
-    assert!(rt; warmed.history.len() == 3);
-    assert!(rt; warmed.history.at(1).caller == 0);
-    assert!(rt; is_warm_put(&warmed.history.at(2), [3u8].as_slice(), [7u8].as_slice()));
-    Ok(())
+    play(rt.alloc(), ADDED)
 }

@@ -1,49 +1,32 @@
-// Very many calls of one key, with bytes that no terminal should see.
-use super::texts::hit;
+//! Very many calls of one key, with bytes that no terminal should see.
+use super::texts::{What, told};
 use certificate_finder::Witness;
-use history_picture::{Reason, Scene, explanation, picture};
-use std::alloc::{AllocError, Global};
+use history_picture::Reason;
+use std::alloc::Global;
 use std::test::Fail;
-use trace_file::History;
+use test_devices::{key, value};
+use trace_file::{Act, Call, History};
 
 /// A thousand hits of one key, ten stamps apart.
-fn thousand(alloc: Global) -> Result<History, AllocError> {
+fn thousand(alloc: Global) -> Result<History, Fail> {
     let mut history = History::new(alloc);
     for number in 0..1000u64 {
-        hit(
-            alloc,
-            &mut history,
-            0,
-            [10 * number, 10 * number + 5],
-            b"\x1b[2J\n\xff",
-        )?;
+        history.push(Call {
+            caller: 0,
+            start: 10 * number,
+            end: 10 * number + 5,
+            key: key(alloc, b"k")?,
+            act: Act::Hit(value(alloc, b"\x1b[2J\n\xff")?, 0),
+        })?;
     }
     Ok(history)
 }
 
-/// A name that clears a terminal.
-fn names(alloc: Global) -> Result<Vec<Vec<u8>>, AllocError> {
-    let mut name: Vec<u8> = Vec::new(alloc);
-    name.extend_from_slice(b"\x1b[2J\t")?;
-    let mut names: Vec<Vec<u8>> = Vec::new(alloc);
-    names.push(name)?;
-    Ok(names)
-}
-
-/// What is said of the one in the middle, or its picture.
-fn said(alloc: Global, drawn: bool) -> Result<String, AllocError> {
+/// What is said of the one in the middle, or its picture. The name of the caller clears a terminal.
+fn told_of_one(alloc: Global, what: What) -> Result<String, Fail> {
     let history = thousand(alloc)?;
-    let names = names(alloc)?;
-    let scene = Scene {
-        history: &history,
-        lines: &[],
-        callers: names.as_slice(),
-    };
     let reason = Reason::of_witness(Witness::Hit(500, Vec::new(alloc)));
-    if drawn {
-        return picture(alloc, &scene, &reason);
-    }
-    explanation(alloc, &scene, &reason)
+    Ok(told(alloc, &history, &[], b"\x1b[2J\t", &reason, what)?)
 }
 
 /// Whether a byte is printable, or ends a line.
@@ -53,7 +36,7 @@ fn is_shown(byte: u8) -> bool {
 
 #[test]
 fn the_nearest_of_a_thousand_are_shown(rt: HostRuntime) -> Result<(), Fail> {
-    let text = said(rt.alloc(), false)?;
+    let text = told_of_one(rt.alloc(), What::Explanation)?;
     let lines = text
         .as_bytes()
         .iter()
@@ -71,7 +54,7 @@ fn the_nearest_of_a_thousand_are_shown(rt: HostRuntime) -> Result<(), Fail> {
 
 #[test]
 fn a_picture_has_the_same_calls(rt: HostRuntime) -> Result<(), Fail> {
-    let text = said(rt.alloc(), true)?;
+    let text = told_of_one(rt.alloc(), What::Picture)?;
     assert!(rt; text.as_str().contains("<title>position 489: "));
     assert!(rt; text.as_str().contains("<title>position 511: "));
     assert!(rt; !text.as_str().contains("<title>position 487: "));

@@ -1,11 +1,12 @@
-// The sentence for each reason.
-use super::texts::stale;
+//! The sentence for each reason.
+use super::texts::{CALLS, What, told};
+use crate::tests::made::history_of;
 use certificate_checker::Fault;
 use certificate_finder::{CrossedWrites, Excluded, Excuse, Side, UnreadHit, Witness};
-use history_picture::{Reason, Scene};
+use history_picture::Reason;
 use std::alloc::{AllocError, Global};
 use std::test::Fail;
-use trace_file::Certificate;
+use trace_file::{Certificate, History};
 
 /// The sentences, by their numbers.
 static SENTENCES: [&str; 11] = [
@@ -61,46 +62,40 @@ fn certificate(alloc: Global, positions: [u32; 3]) -> Result<Certificate, AllocE
     Ok(certificate)
 }
 
-/// The reason that a fault of the stale history with a certificate is.
-fn faulty(alloc: Global, positions: [u32; 3], fault: Fault) -> Result<Reason, AllocError> {
-    let history = stale(alloc)?;
+/// The reason that a fault of a history with a certificate is.
+fn faulty(
+    alloc: Global,
+    history: &History,
+    positions: [u32; 3],
+    fault: Fault,
+) -> Result<Reason, AllocError> {
     let certificate = certificate(alloc, positions)?;
-    Ok(Reason::of_fault(&history, &certificate, fault))
+    Ok(Reason::of_fault(history, &certificate, fault))
 }
 
 /// The reasons, by their numbers.
-fn reason(alloc: Global, number: usize) -> Result<Reason, AllocError> {
+fn reason(alloc: Global, history: &History, number: usize) -> Result<Reason, AllocError> {
     match number {
         0 => Ok(Reason::of_witness(Witness::Interval(0))),
         1 => Ok(Reason::of_witness(Witness::Hit(2, Vec::new(alloc)))),
         2 => excluded(alloc, 1, Excuse::Later),
         3 => excluded(alloc, 0, Excuse::Expired),
         4 => Ok(Reason::of_witness(Witness::Crossed(side(0, 2), side(1, 1)))),
-        5 => faulty(alloc, [0, 1, 2], Fault::WrongHit { place: 2 }),
-        6 => faulty(alloc, [2, 1, 0], Fault::WrongHit { place: 0 }),
-        7 => faulty(alloc, [1, 2, 0], Fault::OutOfOrder { place: 2 }),
-        8 => faulty(alloc, [1, 1, 0], Fault::Repeated { place: 1 }),
+        5 => faulty(alloc, history, [0, 1, 2], Fault::WrongHit { place: 2 }),
+        6 => faulty(alloc, history, [2, 1, 0], Fault::WrongHit { place: 0 }),
+        7 => faulty(alloc, history, [1, 2, 0], Fault::OutOfOrder { place: 2 }),
+        8 => faulty(alloc, history, [1, 1, 0], Fault::Repeated { place: 1 }),
         9 => unread(alloc),
         _ => Ok(Reason::of_witness(Witness::Interval(7))),
     }
 }
 
-/// The sentence of a reason, by its number.
-fn sentence(alloc: Global, number: usize) -> Result<String, AllocError> {
-    let history = stale(alloc)?;
-    let scene = Scene {
-        history: &history,
-        lines: &[],
-        callers: &[],
-    };
-    let reason = reason(alloc, number)?;
-    scene.sentence(alloc, &reason)
-}
-
 #[test]
 fn each_reason_has_its_sentence(rt: HostRuntime) -> Result<(), Fail> {
+    let history = history_of(rt.alloc(), CALLS)?;
     for number in 0..11usize {
-        let text = sentence(rt.alloc(), number)?;
+        let reason = reason(rt.alloc(), &history, number)?;
+        let text = told(rt.alloc(), &history, &[], &[], &reason, What::Sentence)?;
         assert!(rt; text.as_str() == SENTENCES[number]);
     }
     Ok(())

@@ -1,6 +1,7 @@
 // Random texts in time order, judged whole and with a window.
 use crate::tests::forgetting::draw;
-use crate::tests::streams::rows::{End, scope, streamed, whole};
+use crate::tests::judging::{End, streamed, whole};
+use judge_run::Scope;
 use std::alloc::{AllocError, Global};
 use std::test::Fail;
 
@@ -101,11 +102,13 @@ struct Ends {
 fn random_ends(alloc: Global, seed: &mut u64, round: u64) -> Result<Ends, AllocError> {
     let warm = round % 2 == 1;
     let text = random_text(alloc, seed, warm)?;
-    let scope = scope(warm, 0);
-    let least = 1 + (round % 5) as usize;
+    let scope = Scope {
+        warm,
+        ..Scope::WHOLE
+    };
     Ok(Ends {
-        whole: whole(alloc, text.as_str(), scope),
-        streamed: streamed(alloc, text.as_str(), scope, 8, least),
+        whole: whole(alloc, text.as_bytes(), scope),
+        streamed: streamed(alloc, text.as_bytes(), scope, 8, 1 + round % 5),
     })
 }
 

@@ -1,9 +1,11 @@
-// Reading by pieces.
+//! Reading by pieces.
+use crate::tests::reading::Text;
 use history_text::{ReadTextFault, Reading, TextHistory, TextReader, write_text};
-use std::alloc::Global;
-use std::hash::{BuildHasherDefault, FoldHasher};
+use std::alloc::{AllocError, Global};
+use std::hash::BuildHasherDefault;
 use std::io;
 use std::io::{Error, ErrorKind, Read};
+use std::test::Fail;
 use trace_file::History;
 
 /// Five calls, a remark and a bad line.
@@ -34,30 +36,34 @@ impl Read for Few<'_> {
     }
 }
 
-/// A text that was read by pieces of so many calls, and how many pieces it had.
-#[derive(Drop)]
+/// How many pieces a text had, and how many bad lines.
+#[derive(Clone, Copy)]
 struct Pieces {
-    text: TextHistory<BuildHasherDefault<FoldHasher>>,
     pieces: u32,
     skipped: u64,
 }
 
+/// A text with no calls.
+fn no_text(alloc: Global) -> Result<Box<Text>, AllocError> {
+    Ok(Box::new(alloc, TextHistory::new(alloc, BuildHasherDefault::new()))?)
+}
+
 /// Reads a text by pieces of so many calls.
-fn by_pieces<R: Read>(alloc: Global, reader: &mut R, most: usize) -> Result<Pieces, ReadTextFault> {
-    let mut text = TextHistory::new(alloc, BuildHasherDefault::new());
+fn by_pieces<R: Read>(
+    alloc: Global,
+    text: &mut Text,
+    reader: &mut R,
+    most: usize,
+) -> Result<Pieces, ReadTextFault> {
     let reading = Reading {
         skip_bad: true,
         ..Reading::WHOLE
     };
     let mut lines = TextReader::new(alloc, reading);
     for pieces in 1..10u32 {
-        if lines.take_calls(alloc, &mut text, reader, most)? {
+        if lines.take_calls(alloc, text, reader, most)? {
             let skipped = lines.skipped();
-            return Ok(Pieces {
-                text,
-                pieces,
-                skipped,
-            });
+            return Ok(Pieces { pieces, skipped });
         }
     }
     Err(ReadTextFault::OutOfMemory)
@@ -66,73 +72,61 @@ fn by_pieces<R: Read>(alloc: Global, reader: &mut R, most: usize) -> Result<Piec
 /// Whether this is what is written of a history.
 fn is_told(alloc: Global, history: &History, told: &[u8]) -> bool {
     let mut out = Vec::new(alloc);
-    match write_text(alloc, history, None, &mut out) {
-        Ok(()) => out.as_slice() == told,
-        Err(_) => false,
-    }
+    write_text(alloc, history, None, &mut out).is_ok() && out.as_slice() == told
 }
 
 /// Whether a text that was read by pieces is the whole.
-fn is_whole(alloc: Global, came: &Pieces) -> bool {
-    came.skipped == 1
-        && came.text.lines.as_slice() == [1u32, 3, 5, 6, 7].as_slice()
-        && is_told(alloc, &came.text.history, TOLD)
+fn is_whole(alloc: Global, text: &Text) -> bool {
+    text.lines.as_slice() == [1u32, 3, 5, 6, 7].as_slice() && is_told(alloc, &text.history, TOLD)
 }
 
 /// Whether the text is read right of a reader that gives so few bytes at a time, by pieces of so many calls, of which it has so many.
-fn is_right(alloc: Global, few: usize, most: usize, pieces: u32) -> bool {
+fn is_right(alloc: Global, few: usize, most: usize, pieces: u32) -> Result<bool, AllocError> {
     let mut reader = Few {
         rest: TEXT,
         few,
         fails: false,
     };
-    match by_pieces(alloc, &mut reader, most) {
-        Ok(came) => came.pieces == pieces && is_whole(alloc, &came),
-        Err(_) => false,
+    let mut text = no_text(alloc)?;
+    match by_pieces(alloc, &mut text, &mut reader, most) {
+        Ok(came) => Ok(came.pieces == pieces && came.skipped == 1 && is_whole(alloc, &text)),
+        Err(_) => Ok(false),
     }
 }
 
-/// How few bytes come at a time, how many calls a piece has, and how many pieces there are then.
-static PIECES: [(usize, usize, u32); 9] = [
-    (1, 1, 6),
-    (1, 2, 3),
-    (1, 1000, 1),
-    (3, 1, 6),
-    (3, 2, 3),
-    (3, 1000, 1),
-    (4096, 1, 6),
-    (4096, 2, 3),
-    (4096, 1000, 1),
-];
-
 #[test]
-fn pieces_are_the_whole(rt: HostRuntime) {
-    for (few, most, pieces) in PIECES {
-        assert!(rt; is_right(rt.alloc(), few, most, pieces), "{few} {most}");
+fn pieces_are_the_whole(rt: HostRuntime) -> Result<(), Fail> {
+    for few in [1usize, 3, 4096] {
+        assert!(rt; is_right(rt.alloc(), few, 1, 6)?, "{few}");
+        assert!(rt; is_right(rt.alloc(), few, 2, 3)?, "{few}");
+        assert!(rt; is_right(rt.alloc(), few, 1000, 1)?, "{few}");
     }
+    Ok(())
 }
 
 /// Whether a failed read is told by pieces of so many calls.
-fn fails_so(alloc: Global, most: usize) -> bool {
+fn fails_so(alloc: Global, most: usize) -> Result<bool, AllocError> {
     let mut reader = Few {
         rest: TEXT,
         few: 3,
         fails: true,
     };
-    match by_pieces(alloc, &mut reader, most) {
-        Err(ReadTextFault::ReadFault) => true,
-        _ => false,
+    let mut text = no_text(alloc)?;
+    match by_pieces(alloc, &mut text, &mut reader, most) {
+        Err(ReadTextFault::ReadFault) => Ok(true),
+        _ => Ok(false),
     }
 }
 
 #[test]
-fn a_failed_read_is_told(rt: HostRuntime) {
-    assert!(rt; fails_so(rt.alloc(), 1));
-    assert!(rt; fails_so(rt.alloc(), 1000));
+fn a_failed_read_is_told(rt: HostRuntime) -> Result<(), Fail> {
+    assert!(rt; fails_so(rt.alloc(), 1)?);
+    assert!(rt; fails_so(rt.alloc(), 1000)?);
+    Ok(())
 }
 
 /// Whether the last call and the second of a text that was read are kept, in this order, with all callers.
-fn keeps_some(alloc: Global, text: &mut TextHistory<BuildHasherDefault<FoldHasher>>) -> bool {
+fn keeps_some(alloc: Global, text: &mut Text) -> bool {
     text.keep(alloc, &[4, 1, 9]).is_ok()
         && is_told(alloc, &text.history, b"c0 9 9 put k w\nc1 3 - remove k\n")
         && text.lines.as_slice() == [7u32, 3].as_slice()
@@ -140,10 +134,11 @@ fn keeps_some(alloc: Global, text: &mut TextHistory<BuildHasherDefault<FoldHashe
 }
 
 #[test]
-fn some_calls_are_kept(rt: HostRuntime) {
+fn some_calls_are_kept(rt: HostRuntime) -> Result<(), Fail> {
     let mut bytes = TEXT;
-    match by_pieces(rt.alloc(), &mut bytes, 1000) {
-        Ok(mut came) => assert!(rt; keeps_some(rt.alloc(), &mut came.text)),
-        Err(_) => assert!(rt; false),
-    }
+    let mut text = no_text(rt.alloc())?;
+    let came = by_pieces(rt.alloc(), &mut text, &mut bytes, 1000);
+    assert!(rt; came.is_ok());
+    assert!(rt; keeps_some(rt.alloc(), &mut text));
+    Ok(())
 }

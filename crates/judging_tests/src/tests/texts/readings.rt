@@ -1,95 +1,159 @@
-// Bad lines that are passed over or not, and shares of keys.
-use history_text::{BadLine, LineCause, ReadTextFault, Reading, Share, read_text};
-use std::alloc::{AllocError, Global};
-use std::hash::{BuildHasherDefault, FoldHasher};
+//! Bad lines that are passed over or not, and shares of keys.
+use crate::tests::cases::check_cases;
+use crate::tests::reading::came_of;
+use history_text::{Reading, Share};
+use std::alloc::Global;
 use std::test::Fail;
 
-/// Bad lines are passed over.
-const SKIPPING: Reading = Reading {
-    skip_bad: true,
-    ..Reading::WHOLE
-};
-
-/// A bad line for each cause of its own.
-static BAD: [(&[u8], LineCause); 12] = [
-    (b"a 1 2", LineCause::NotWords),
-    (b"a x 2 miss k", LineCause::BadStart),
-    (b"a 1 x miss k", LineCause::BadEnd),
-    (b"a 1 2 get k", LineCause::BadKind),
-    (b"a 1 2 miss k v", LineCause::WrongCount),
-    (b"a 1 - miss k", LineCause::NoReturn),
-    (b"a 1 2 miss %", LineCause::BadKeyCode),
-    (b"a 1 2 miss -", LineCause::BadKeyLen),
-    (b"a 1 2 put k %", LineCause::BadValueCode),
-    (b"a 1 2 put k v x", LineCause::BadExpiry),
-    (b"a 1 2 hit k v x", LineCause::BadMoment),
-    (b"a 1 2 hit k % x", LineCause::BadValueCode),
-];
-
-/// How many calls are read of a text, on which line the last of them stands, how many callers there are, and how many lines were
-/// passed over; or the first bad line.
-#[derive(Clone, Copy, PartialEq, Eq)]
-enum Came {
-    Read(usize, u32, usize, u64),
-    Bad(BadLine),
-    Failed,
-}
-
-/// What comes of reading a text.
-fn what_came(alloc: Global, reading: Reading, mut text: &[u8]) -> Came {
-    let known: BuildHasherDefault<FoldHasher> = BuildHasherDefault::new();
-    match read_text(alloc, known, reading, &mut text) {
-        Ok(read) => {
-            let last = match read.text.lines.last() {
-                Some(line) => *line,
-                None => 0,
-            };
-            let calls = read.text.history.len();
-            Came::Read(calls, last, read.text.callers.len(), read.skipped)
-        }
-        Err(ReadTextFault::Bad(bad)) => Came::Bad(bad),
-        Err(_) => Came::Failed,
-    }
-}
-
-/// A bad line between two calls.
-fn between(alloc: Global, bad: &[u8]) -> Result<Vec<u8>, AllocError> {
-    let mut text = Vec::from_slice(alloc, b"b 1 2 put k v\n")?;
-    text.extend_from_slice(bad)?;
-    text.extend_from_slice(b"\nc 3 4 hit k v\n")?;
-    Ok(text)
-}
-
-/// Whether a bad line is a fault for this cause, and passed over if that is wanted.
-fn is_bad(alloc: Global, line: &[u8], cause: LineCause) -> bool {
-    match between(alloc, line) {
-        Ok(text) => {
-            let bad = BadLine { number: 2, cause };
-            what_came(alloc, Reading::WHOLE, text.as_slice()) == Came::Bad(bad)
-                && what_came(alloc, SKIPPING, text.as_slice()) == Came::Read(2, 3, 2, 1)
-        }
-        Err(_) => false,
-    }
-}
+/// A bad line for each cause of its own, between two calls: it is a fault, and passed over if that is wanted.
+static BAD: &[u8] = b"
+came bad
+^b 1 2 put k v
+a 1 2
+c 3 4 hit k v
+^bad line 2: a line has five to seven words of printable ASCII, separated by single spaces: CALLER START END put|hit|miss|remove KEY [VALUE [TIME]]
+@
+skip; came 2 2 1 1 3
+^b 1 2 put k v
+a 1 2
+c 3 4 hit k v
+^@
+came bad
+^b 1 2 put k v
+a x 2 miss k
+c 3 4 hit k v
+^bad line 2: START must be a number below 2^63, in decimal without leading zeros
+@
+skip; came 2 2 1 1 3
+^b 1 2 put k v
+a x 2 miss k
+c 3 4 hit k v
+^@
+came bad
+^b 1 2 put k v
+a 1 x miss k
+c 3 4 hit k v
+^bad line 2: END must be a number below 2^63, in decimal without leading zeros, or - if the call never returned
+@
+skip; came 2 2 1 1 3
+^b 1 2 put k v
+a 1 x miss k
+c 3 4 hit k v
+^@
+came bad
+^b 1 2 put k v
+a 1 2 get k
+c 3 4 hit k v
+^bad line 2: the fourth word must be put, hit, miss or remove
+@
+skip; came 2 2 1 1 3
+^b 1 2 put k v
+a 1 2 get k
+c 3 4 hit k v
+^@
+came bad
+^b 1 2 put k v
+a 1 2 miss k v
+c 3 4 hit k v
+^bad line 2: wrong number of words: put and hit have KEY VALUE and at most one time after them, miss and remove have only KEY
+@
+skip; came 2 2 1 1 3
+^b 1 2 put k v
+a 1 2 miss k v
+c 3 4 hit k v
+^@
+came bad
+^b 1 2 put k v
+a 1 - miss k
+c 3 4 hit k v
+^bad line 2: END of a hit or a miss must be a number: leave out gets that never returned
+@
+skip; came 2 2 1 1 3
+^b 1 2 put k v
+a 1 - miss k
+c 3 4 hit k v
+^@
+came bad
+^b 1 2 put k v
+a 1 2 miss %
+c 3 4 hit k v
+^bad line 2: bad percent-encoding in the key: % must be followed by two hexadecimal digits
+@
+skip; came 2 2 1 1 3
+^b 1 2 put k v
+a 1 2 miss %
+c 3 4 hit k v
+^@
+came bad
+^b 1 2 put k v
+a 1 2 miss -
+c 3 4 hit k v
+^bad line 2: the key must have 1 to 255 bytes after percent-decoding: - means no bytes, %2D is a hyphen
+@
+skip; came 2 2 1 1 3
+^b 1 2 put k v
+a 1 2 miss -
+c 3 4 hit k v
+^@
+came bad
+^b 1 2 put k v
+a 1 2 put k %
+c 3 4 hit k v
+^bad line 2: bad percent-encoding in the value: % must be followed by two hexadecimal digits
+@
+skip; came 2 2 1 1 3
+^b 1 2 put k v
+a 1 2 put k %
+c 3 4 hit k v
+^@
+came bad
+^b 1 2 put k v
+a 1 2 put k v x
+c 3 4 hit k v
+^bad line 2: the expiry of a put must be a number below 2^63, in decimal without leading zeros: leave it out if the value never expires
+@
+skip; came 2 2 1 1 3
+^b 1 2 put k v
+a 1 2 put k v x
+c 3 4 hit k v
+^@
+came bad
+^b 1 2 put k v
+a 1 2 hit k v x
+c 3 4 hit k v
+^bad line 2: the moment of a hit must be a number below 2^63, in decimal without leading zeros: leave it out to mean 0
+@
+skip; came 2 2 1 1 3
+^b 1 2 put k v
+a 1 2 hit k v x
+c 3 4 hit k v
+^@
+came bad
+^b 1 2 put k v
+a 1 2 hit k % x
+c 3 4 hit k v
+^bad line 2: bad percent-encoding in the value: % must be followed by two hexadecimal digits
+@
+skip; came 2 2 1 1 3
+^b 1 2 put k v
+a 1 2 hit k % x
+c 3 4 hit k v
+^";
 
 #[test]
-fn a_bad_line_is_a_fault_unless_it_may_be_passed_over(rt: HostRuntime) {
-    for (line, cause) in BAD {
-        assert!(rt; is_bad(rt.alloc(), line, cause));
-    }
+fn a_bad_line_is_a_fault_unless_it_may_be_passed_over(rt: HostRuntime) -> Result<(), Fail> {
+    check_cases(rt.alloc(), BAD)
 }
+
+static LONG: &[u8] = b"
+fill x 8193; line; line c 3 4 hit k v; skip; came bad
+^b 1 2 put k v
+^bad line 2: the line is too long: a line has at most 8192 bytes
+";
 
 #[test]
 fn a_line_that_is_too_long_is_a_fault_even_so(rt: HostRuntime) -> Result<(), Fail> {
-    let mut long = Vec::new(rt.alloc());
-    long.resize(8193, b'x')?;
-    let text = between(rt.alloc(), long.as_slice())?;
-    let bad = BadLine {
-        number: 2,
-        cause: LineCause::TooLong,
-    };
-    assert!(rt; what_came(rt.alloc(), SKIPPING, text.as_slice()) == Came::Bad(bad));
-    Ok(())
+    check_cases(rt.alloc(), LONG)
 }
 
 /// Whether a key is in one of seven shares.
@@ -125,24 +189,24 @@ static TWO_KEYS: &[u8] = b"a 1 2 put k v\nb 3 4 put l w\na 5 6 hit k v\nb 7 8 hi
 
 /// How many calls a share of five has of them; none if it has not all calls of some keys, with their callers.
 fn calls_in(alloc: Global, part: u32) -> Option<usize> {
-    let Some(share) = Share::new(part, 5) else {
-        return None;
-    };
     let reading = Reading {
-        share,
+        share: Share::new(part, 5)?,
         ..Reading::WHOLE
     };
-    let came = what_came(alloc, reading, TWO_KEYS);
-    if came == Came::Read(0, 0, 0, 0) {
-        return Some(0);
+    let mut text = TWO_KEYS;
+    let came = came_of(alloc, reading, &mut text).ok()?;
+    let last = came.lines.last().copied().unwrap_or(0);
+    let are_whole = match came.calls {
+        0 => came.callers == 0 && last == 0,
+        2 => came.callers == 1 && (last == 3 || last == 4),
+        4 => came.callers == 2 && last == 4,
+        _ => false,
+    };
+    if are_whole && came.skipped == 0 {
+        Some(came.calls)
+    } else {
+        None
     }
-    if came == Came::Read(2, 3, 1, 0) || came == Came::Read(2, 4, 1, 0) {
-        return Some(2);
-    }
-    if came == Came::Read(4, 4, 2, 0) {
-        return Some(4);
-    }
-    None
 }
 
 #[test]

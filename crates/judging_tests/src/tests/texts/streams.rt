@@ -1,10 +1,7 @@
 // Readers and writers that give or take little, that fail, or that never end.
-use crate::tests::texts::lines::read;
-use history_text::{
-    BadLine, LineCause, ReadTextFault, Reading, TextHistory, WriteTextFault, read_text, write_text,
-};
+use crate::tests::reading::{came_of, read};
+use history_text::{BadLine, LineCause, ReadTextFault, Reading, WriteTextFault, write_text};
 use std::alloc::Global;
-use std::hash::{BuildHasherDefault, FoldHasher};
 use std::io;
 use std::io::{Error, ErrorKind, Read, Write};
 use std::test::Fail;
@@ -78,83 +75,75 @@ impl Write for Full {
     }
 }
 
-/// What reading from a reader answers.
-fn read_from<R: Read>(
-    alloc: Global,
-    reader: &mut R,
-) -> Result<TextHistory<BuildHasherDefault<FoldHasher>>, ReadTextFault> {
-    let hash_builder: BuildHasherDefault<FoldHasher> = BuildHasherDefault::new();
-    match read_text(alloc, hash_builder, Reading::WHOLE, reader) {
-        Ok(read) => Ok(read.text),
-        Err(fault) => Err(fault),
+/// The bad line that reading from a reader comes to, if it comes to one.
+fn bad_line_of<R: Read>(alloc: Global, reader: &mut R) -> Option<BadLine> {
+    match came_of(alloc, Reading::WHOLE, reader) {
+        Err(ReadTextFault::Bad(bad)) => Some(bad),
+        _ => None,
+    }
+}
+
+/// Whether this is the number of a bad line, and its cause.
+fn is_bad(bad: Option<BadLine>, number: u64, cause: LineCause) -> bool {
+    match bad {
+        Some(bad) => bad.number == number && bad.cause == cause,
+        None => false,
     }
 }
 
 #[test]
-fn a_line_without_end_is_bad_before_more_is_read(rt: HostRuntime) -> Result<(), Fail> {
+fn a_line_without_end_is_bad_before_more_is_read(rt: HostRuntime) {
     let mut reader = Endless { given: 0 };
-    let answer = read_from(rt.alloc(), &mut reader);
-    assert!(rt;
-        matches!(
-            &answer,
-            Err(ReadTextFault::Bad(BadLine {
-                number: 1,
-                cause: LineCause::TooLong
-            }))
-        )
-    );
+    let bad = bad_line_of(rt.alloc(), &mut reader);
+    assert!(rt; is_bad(bad, 1, LineCause::TooLong));
     assert!(rt; reader.given == 12288);
-    Ok(())
+}
+
+/// Whether three calls are read of a reader, with their lines.
+fn is_whole(alloc: Global, reader: &mut Slow<'_>) -> bool {
+    match came_of(alloc, Reading::WHOLE, reader) {
+        Ok(came) => came.calls == 3 && came.lines.as_slice() == [1u32, 3, 4].as_slice(),
+        Err(_) => false,
+    }
+}
+
+/// Whether a read of a reader fails.
+fn is_unread(alloc: Global, reader: &mut Slow<'_>) -> bool {
+    matches!(
+        came_of(alloc, Reading::WHOLE, reader),
+        Err(ReadTextFault::ReadFault)
+    )
+}
+
+/// A reader of a text, of which nothing was asked yet.
+fn slow_reader(rest: &[u8], fails: bool) -> Slow<'_> {
+    Slow {
+        rest,
+        fails,
+        calls_behind: 0,
+    }
 }
 
 #[test]
-fn bytes_come_one_at_a_time(rt: HostRuntime) -> Result<(), Fail> {
-    let mut reader = Slow {
-        rest: TEXT,
-        fails: false,
-        calls_behind: 0,
-    };
-    let Ok(text) = read_from(rt.alloc(), &mut reader) else {
-        return Err(Fail::from(std::alloc::AllocError));
-    };
-    assert!(rt; text.history.len() == 3);
-    assert!(rt; text.lines.as_slice() == [1u32, 3, 4].as_slice());
+fn bytes_come_one_at_a_time(rt: HostRuntime) {
+    let mut reader = slow_reader(TEXT, false);
+    assert!(rt; is_whole(rt.alloc(), &mut reader));
     assert!(rt; reader.calls_behind == 1);
-    Ok(())
 }
 
 #[test]
-fn a_failed_read_is_not_tried_again(rt: HostRuntime) -> Result<(), Fail> {
-    let mut reader = Slow {
-        rest: TEXT,
-        fails: true,
-        calls_behind: 0,
-    };
-    let answer = read_from(rt.alloc(), &mut reader);
-    assert!(rt; matches!(&answer, Err(ReadTextFault::ReadFault)));
+fn a_failed_read_is_not_tried_again(rt: HostRuntime) {
+    let mut reader = slow_reader(TEXT, true);
+    assert!(rt; is_unread(rt.alloc(), &mut reader));
     assert!(rt; reader.calls_behind == 1);
-    Ok(())
 }
 
 #[test]
-fn a_bad_line_is_told_before_a_failed_read(rt: HostRuntime) -> Result<(), Fail> {
-    let mut reader = Slow {
-        rest: b"x 1 2 put k v\nx\nx 1",
-        fails: true,
-        calls_behind: 0,
-    };
-    let answer = read_from(rt.alloc(), &mut reader);
-    assert!(rt;
-        matches!(
-            &answer,
-            Err(ReadTextFault::Bad(BadLine {
-                number: 2,
-                cause: LineCause::NotWords
-            }))
-        )
-    );
+fn a_bad_line_is_told_before_a_failed_read(rt: HostRuntime) {
+    let mut reader = slow_reader(b"x 1 2 put k v\nx\nx 1", true);
+    let bad = bad_line_of(rt.alloc(), &mut reader);
+    assert!(rt; is_bad(bad, 2, LineCause::NotWords));
     assert!(rt; reader.calls_behind == 0);
-    Ok(())
 }
 
 #[test]
