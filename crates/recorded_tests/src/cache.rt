@@ -9,7 +9,6 @@ mod going_back;
 mod many;
 mod meeting;
 mod opened;
-mod opening;
 mod played;
 mod rounds;
 mod rows;

@@ -5,3 +5,7 @@
 mod cache;
 #[cfg(test)]
 mod lanes;
+#[cfg(test)]
+mod opening;
+#[cfg(test)]
+mod texts;

@@ -1,58 +1,74 @@
 //! Stamps from one clock: by one seat, by two, and by a thread that another one waited for.
 ghost use Rattle.std.specs.Prelude.{◌≡◌, IfOk};
 
+use super::super::texts::is;
 use shared_cache::{Clock, ClockSeat, LAST_STAMP};
 use std::alloc::Global;
 use std::sync::Wait;
 use std::test::Fail;
 use std::thread::{Threads, join};
+use test_devices::{Scripted, Step, run_text};
 
-/// A step of a seat, and what it gives.
-#[derive(Clone, Copy)]
-enum Step {
-    /// A stamp, or none if the clock is full.
-    Tick(Option<u64>),
-    Observe(u64),
-    /// A stamp that the seat is told of, and whether it is refused.
-    Meet(u64, bool),
-    Seen(u64),
+/// A seat and its clock.
+#[derive(Drop)]
+struct Seated<'a> {
+    clock: &'a Clock,
+    seat: ClockSeat,
+    ghost tie: { seat.clock ≡ clock.now },
 }
 
-// Whether a step gives what is written beside it.
-fn gives(clock: &Clock, seat: &mut ClockSeat, step: &Step) -> bool
+impl<'a> Scripted for Seated<'a> {
+    ghost use Rattle.std.specs.Prelude.{⊤};
+
+    ghost can_act = { ⊤ };
+
+    fn act(&mut self, _alloc: Global, step: &mut Step<'_>) -> Result<(), Fail> {
+        let word = step.word();
+        Ok(take(self.clock, &mut self.seat, word, step))
+    }
+}
+
+/// Two seats of a clock.
+#[derive(Drop)]
+struct Two<'a> {
+    first: Seated<'a>,
+    second: Seated<'a>,
+}
+
+impl<'a> Scripted for Two<'a> {
+    ghost use Rattle.std.specs.Prelude.{⊤};
+
+    ghost can_act = { ⊤ };
+
+    fn act(&mut self, alloc: Global, step: &mut Step<'_>) -> Result<(), Fail> {
+        if is(step.word(), b"first") {
+            return self.first.act(alloc, step);
+        }
+        self.second.act(alloc, step)
+    }
+}
+
+// Has a seat take a step: draw a stamp, observe one, or be told of one. Or tells the stamp that it has seen.
+fn take(clock: &Clock, seat: &mut ClockSeat, word: &[u8], step: &mut Step<'_>)
     requires { seat.old.clock ≡ clock.now }
     ensures { seat.new.clock ≡ clock.now }
 {
-    match step {
-        Step::Tick(stamp) => clock.tick(seat).ok() == *stamp,
-        Step::Observe(stamp) => observes(clock, seat, *stamp),
-        Step::Meet(stamp, is_refused) => seat.meet(*stamp).is_err() == *is_refused,
-        Step::Seen(stamp) => seat.seen() == *stamp,
+    if is(word, b"tick") {
+        match clock.tick(seat) {
+            Ok(stamp) => step.tell_number(stamp),
+            Err(_) => step.tell(b"full"),
+        }
+    } else if is(word, b"observe") {
+        clock.observe(seat, step.number().min(LAST_STAMP));
+    } else if is(word, b"meet") {
+        if seat.meet(step.number()).is_err() {
+            step.tell(b"full");
+        }
+    } else if is(word, b"seen") {
+        step.tell_number(seat.seen());
+    } else {
+        step.refuse();
     }
-}
-
-// Has a seat observe a stamp, if there is such a one.
-fn observes(clock: &Clock, seat: &mut ClockSeat, stamp: u64) -> bool
-    requires { seat.old.clock ≡ clock.now }
-    ensures { seat.new.clock ≡ clock.now }
-{
-    if stamp > LAST_STAMP {
-        return false;
-    }
-    clock.observe(seat, stamp);
-    true
-}
-
-// A seat after its steps, and whether each gave what is written beside it.
-fn all_give(clock: &Clock, mut seat: ClockSeat, steps: &[Step]) -> (ClockSeat, bool)
-    requires { seat.clock ≡ clock.now }
-    ensures { result.0.clock ≡ clock.now }
-{
-    let mut is_right = true;
-    for number in 0..steps.len() {
-        is_right = gives(clock, &mut seat, &steps[number]) && is_right;
-    }
-    (seat, is_right)
 }
 
 // A clock of two seats.
@@ -66,54 +82,54 @@ fn of_two(alloc: Global) -> Result<(Clock, ClockSeat, ClockSeat), Fail>
     Ok((clock, first, second))
 }
 
-const UNTIL_FULL: [Step; 10] = [
-    Step::Tick(Some(1)),
-    Step::Tick(Some(2)),
-    Step::Observe(9),
-    Step::Tick(Some(10)),
-    Step::Observe(4),
-    Step::Seen(10),
-    Step::Observe(LAST_STAMP),
-    Step::Tick(None),
-    Step::Meet(LAST_STAMP + 1, true),
-    Step::Seen(LAST_STAMP),
-];
-
-// Whether the only seat of a clock draws stamps until that is full.
-fn is_drawn_full(alloc: Global) -> Result<bool, Fail> {
+// Takes the steps of a text with the only seat of a new clock.
+fn play(alloc: Global, text: &[u8]) -> Result<(), Fail> {
     let (clock, mut seats) = Clock::new(alloc, 1)?;
     let Some(seat) = seats.pop() else {
         return Err("one seat".into());
     };
-    let (_, is_right) = all_give(&clock, seat, &UNTIL_FULL);
-    Ok(is_right)
+    let mut seated = Seated {
+        clock: &clock,
+        seat,
+    };
+    run_text(alloc, &mut seated, text)
 }
+
+// The last stamp is 9,223,372,036,854,775,807.
+static UNTIL_FULL: &[u8] = b"
+    tick 1; tick 2; observe 9; tick 10; observe 4; seen 10; observe 9223372036854775807; tick full
+    meet 9223372036854775808 full; seen 9223372036854775807
+";
 
 #[test]
 fn one_seat_draws_stamps_until_the_clock_is_full(rt: HostRuntime) -> Result<(), Fail> {
-    assert!(rt; is_drawn_full(rt.alloc())?);
-    Ok(())
+    play(rt.alloc(), UNTIL_FULL)
 }
 
-// Whether two seats that draw in turn draw above each other's stamps.
-fn are_in_turn(clock: &Clock, first: ClockSeat, second: ClockSeat) -> bool
-    requires first { first.clock ≡ clock.now }
-    requires second { second.clock ≡ clock.now }
-{
-    let (first, at_1) = all_give(clock, first, &[Step::Tick(Some(1))]);
-    let (second, at_7) = all_give(clock, second, &[Step::Tick(Some(2)), Step::Observe(7)]);
-    let (first, at_8) = all_give(clock, first, &[Step::Tick(Some(8))]);
-    let (second, at_20) = all_give(clock, second, &[Step::Meet(20, false)]);
-    let (_, at_9) = all_give(clock, first, &[Step::Tick(Some(9))]);
-    let (_, at_21) = all_give(clock, second, &[Step::Tick(Some(21))]);
-    at_1 && at_7 && at_8 && at_20 && at_9 && at_21
+// Takes the steps of a text with two seats of a new clock.
+fn play_two(alloc: Global, text: &[u8]) -> Result<(), Fail> {
+    let (clock, first, second) = of_two(alloc)?;
+    let mut two = Two {
+        first: Seated {
+            clock: &clock,
+            seat: first,
+        },
+        second: Seated {
+            clock: &clock,
+            seat: second,
+        },
+    };
+    run_text(alloc, &mut two, text)
 }
+
+static IN_TURN: &[u8] = b"
+    first tick 1; second tick 2; second observe 7; first tick 8
+    second meet 20; first tick 9; second tick 21
+";
 
 #[test]
 fn a_seat_draws_above_the_others_stamps(rt: HostRuntime) -> Result<(), Fail> {
-    let (clock, first, second) = of_two(rt.alloc())?;
-    assert!(rt; are_in_turn(&clock, first, second));
-    Ok(())
+    play_two(rt.alloc(), IN_TURN)
 }
 
 // Draws this many stamps, and answers the last.

@@ -3,9 +3,9 @@ ghost use Rattle.std.specs.Prelude.{◌≡◌, ◌≤◌, All};
 
 use super::gate::Gate;
 use super::opened::{Cache, PLAIN, Setup, opened};
-use super::played::has_calls;
 use super::test_device::TestDevice;
-use record_pages::{Answer, Config, Key, NEVER, Pushed, Tier, Value};
+use certificate_checker::{Verdict, check};
+use record_pages::{Answer, Config, Key, NEVER, Tier, Value};
 use shared_cache::{CallFault, Finished, Pass};
 use std::alloc::{AllocError, Global};
 use std::sync::atomic::{AtomicBool, AtomicU32, Ordering};
@@ -27,7 +27,6 @@ const SMALL: Config = Config {
 
 static OF_EIGHT: Setup = Setup {
     config: SMALL,
-    pages: 12,
     callers: 8,
     ..PLAIN
 };
@@ -56,23 +55,18 @@ struct Progress {
     went: AtomicU32,
 }
 
-/// How many calls went each way.
-#[derive(Clone, Copy)]
-struct Tally {
-    memory: u32,
-    log: u32,
-    set: u32,
-    other: u32,
-    refused: u32,
-}
+/// How many calls went each way: a value found in memory, in the log or in a set, another answer, or a refusal.
+type Tally = [u32; 5];
 
-static NONE: Tally = Tally {
-    memory: 0,
-    log: 0,
-    set: 0,
-    other: 0,
-    refused: 0,
-};
+const MEMORY: usize = 0;
+
+const LOG: usize = 1;
+
+const SET: usize = 2;
+
+const OTHER: usize = 3;
+
+const REFUSED: usize = 4;
 
 /// A caller's pass after its calls, and how they went.
 #[derive(Drop)]
@@ -88,89 +82,46 @@ fn next(drawn: u64) -> u64 {
         .wrapping_add(1_442_695_040_888_963_407)
 }
 
-// Makes a call that a number picks: of ten calls five are gets, four puts and one a removal.
-fn call<R: Wait>(
-    rt: &R,
-    alloc: Global,
-    cache: &Cache,
-    pass: &mut Pass,
-    drawn: u64,
-    tally: Tally,
-) -> Tally
+// Makes a call that a number picks: of ten calls five are gets, four puts and one a removal. Says which way it went.
+fn call<R: Wait>(rt: &R, alloc: Global, cache: &Cache, pass: &mut Pass, drawn: u64) -> usize
     requires { pass.old.sight.clock ≡ cache.now.clock }
     ensures { pass.new.sight.clock ≡ cache.now.clock }
 {
     let bytes = [b'k', ((drawn >> 33) % KEYS) as u8];
     let Ok(key) = Key::new(alloc, &bytes) else {
-        return refused(tally);
+        return REFUSED;
     };
     match (drawn >> 41) % 10 {
-        0..=4 => after_get(cache.get(rt, pass, &key, 0), tally),
-        5 => after_remove(cache.remove(rt, pass, &key), tally),
+        0..=4 => way_of(&cache.get(rt, pass, &key, 0)),
+        5 => way_if(cache.remove(rt, pass, &key).is_ok()),
         _ => {
             let Ok(value) = Value::new(alloc, &drawn.to_be_bytes()) else {
-                return refused(tally);
+                return REFUSED;
             };
             let word = ((drawn >> 17) % 65536) as u32;
-            after_put(cache.put(rt, pass, key, value, word, NEVER), tally)
+            way_if(cache.put(rt, pass, key, value, word, NEVER).is_ok())
         }
     }
 }
 
-fn after_get(answer: Result<Answer, CallFault>, tally: Tally) -> Tally {
+fn way_of(answer: &Result<Answer, CallFault>) -> usize {
     match answer {
-        Ok(Answer::Hit(_, Tier::Memory)) => Tally {
-            memory: tally.memory.wrapping_add(1),
-            ..tally
-        },
-        Ok(Answer::Hit(_, Tier::Log)) => Tally {
-            log: tally.log.wrapping_add(1),
-            ..tally
-        },
-        Ok(Answer::Hit(_, Tier::Set)) => Tally {
-            set: tally.set.wrapping_add(1),
-            ..tally
-        },
-        Ok(Answer::Miss(_)) => answered(tally),
-        Err(_) => refused(tally),
+        Ok(Answer::Hit(_, Tier::Memory)) => MEMORY,
+        Ok(Answer::Hit(_, Tier::Log)) => LOG,
+        Ok(Answer::Hit(_, Tier::Set)) => SET,
+        Ok(Answer::Miss(_)) => OTHER,
+        Err(_) => REFUSED,
     }
 }
 
-fn after_remove(answer: Result<(), CallFault>, tally: Tally) -> Tally {
-    match answer {
-        Ok(()) => answered(tally),
-        Err(_) => refused(tally),
-    }
+fn way_if(is_answered: bool) -> usize {
+    if is_answered { OTHER } else { REFUSED }
 }
 
-fn after_put(answer: Result<Pushed, CallFault>, tally: Tally) -> Tally {
-    match answer {
-        Ok(_) => answered(tally),
-        Err(_) => refused(tally),
-    }
-}
-
-fn answered(tally: Tally) -> Tally {
-    Tally {
-        other: tally.other.wrapping_add(1),
-        ..tally
-    }
-}
-
-fn refused(tally: Tally) -> Tally {
-    Tally {
-        refused: tally.refused.wrapping_add(1),
-        ..tally
-    }
-}
-
-fn sum(one: Tally, other: Tally) -> Tally {
-    Tally {
-        memory: one.memory.wrapping_add(other.memory),
-        log: one.log.wrapping_add(other.log),
-        set: one.set.wrapping_add(other.set),
-        other: one.other.wrapping_add(other.other),
-        refused: one.refused.wrapping_add(other.refused),
+// Counts so many calls more that went a way.
+fn count(tally: &mut Tally, way: usize, calls: u32) {
+    if let Some(counted) = tally.get_mut(way) {
+        *counted = counted.wrapping_add(calls);
     }
 }
 
@@ -197,12 +148,13 @@ fn calls<R: Wait>(
 ) -> Called
     requires { pass.sight.clock ≡ cache.now.clock }
 {
-    let mut tally = NONE;
+    let mut tally = [0; 5];
     let mut drawn = u64::from(pass.caller());
     let mut went = 0;
     for number in 0..CALLS {
         drawn = next(drawn);
-        tally = call(rt, alloc, cache, &mut pass, drawn, tally);
+        let way = call(rt, alloc, cache, &mut pass, drawn);
+        count(&mut tally, way, 1);
         if number % PACE == 0 {
             went = keep_pace(progress, went);
         }
@@ -310,42 +262,62 @@ fn until_done<R: Threads + Wait + Sync>(
     called
 }
 
-// The passes, and how all calls together went.
-fn gathered(alloc: Global, called: Vec<Called>) -> Result<(Vec<Pass>, Tally), Fail> {
-    let mut passes = Vec::with_capacity(alloc, called.len())?;
-    let mut tally = NONE;
-    for of_one in called {
-        tally = sum(tally, of_one.tally);
-        passes.push(of_one.pass)?;
+fn add(tally: &mut Tally, more: Tally) {
+    for way in 0..5usize {
+        count(tally, way, more[way]);
     }
-    Ok((passes, tally))
 }
 
-// What is left of a cache after the calls of its callers, and how they went.
+// Takes the passes, and adds how their calls went.
+fn gathered(alloc: Global, called: Vec<Called>, tally: &mut Tally) -> Result<Vec<Pass>, Fail> {
+    let mut passes = Vec::with_capacity(alloc, called.len())?;
+    for of_one in called {
+        add(tally, of_one.tally);
+        passes.push(of_one.pass)?;
+    }
+    Ok(passes)
+}
+
+// What is left of a cache after the calls of its callers. Adds how they went.
 fn left<R: Threads + Wait + Sync>(
     rt: &R,
     alloc: Global,
     cache: Cache,
     passes: Vec<Pass>,
-) -> Result<(Finished<TestDevice>, Tally), Fail>
+    tally: &mut Tally,
+) -> Result<Box<Finished<TestDevice>>, Fail>
     requires ties { All (λ p. p.sight.clock ≡ cache.clock) passes.items }
     requires lanes { 4 ≤ cache.layout.lanes }
 {
     let called = beside_workers(rt, alloc, &cache, passes)?;
-    let (passes, tally) = gathered(alloc, called)?;
-    Ok((cache.finish(rt, passes)?, tally))
+    let passes = gathered(alloc, called, tally)?;
+    Ok(Box::new(alloc, cache.finish(rt, passes)?)?)
 }
 
 // Whether no call was refused, and values were found in each tier.
 fn is_in_all(tally: &Tally) -> bool {
-    tally.refused == 0 && tally.memory > 0 && tally.log > 0 && tally.set > 0
+    tally[REFUSED] == 0 && tally[MEMORY] > 0 && tally[LOG] > 0 && tally[SET] > 0
+}
+
+// Makes all calls in threads, and says whether values were found in each tier and the checker accepts so many calls.
+fn are_found<R: Threads + Wait + Sync>(rt: &R, alloc: Global) -> Result<bool, Fail> {
+    let gate = Arc::new(alloc, Gate::new())?;
+    let (cache, passes) = opened(alloc, &OF_EIGHT, &gate)?;
+    let mut tally = [0; 5];
+    let finished = left(rt, alloc, cache, passes, &mut tally)?;
+    Ok(is_in_all(&tally) && has_calls(alloc, &finished, 800_000))
+}
+
+fn has_calls(alloc: Global, finished: &Finished<TestDevice>, calls: usize) -> bool {
+    finished.history.len() == calls
+        && matches!(
+            check(alloc, &finished.history, &finished.certificate),
+            Ok(Verdict::Accepted)
+        )
 }
 
 #[test]
 fn many_threads_find_values_in_all_tiers(rt: HostRuntime) -> Result<(), Fail> {
-    let gate = Arc::new(rt.alloc(), Gate::new())?;
-    let (cache, passes) = opened(rt.alloc(), &OF_EIGHT, &gate)?;
-    let (finished, tally) = left(&rt, rt.alloc(), cache, passes)?;
-    assert!(rt; is_in_all(&tally) && has_calls(rt.alloc(), &finished, 800_000));
+    assert!(rt; are_found(&rt, rt.alloc())?);
     Ok(())
 }

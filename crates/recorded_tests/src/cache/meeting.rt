@@ -1,41 +1,22 @@
 //! Moves of one lane that are in flight at once: two threads make their plans side by side, each for a set of its own.
-use super::opened::{ONE_SET, PLAIN, Setup};
-use super::played::{NOTHING, Play, is_accepted};
-use super::run::Step;
-use klog::Flushed;
-use record_pages::{Config, Pushed};
-use shared_cache::Moved;
+use super::played::{Beside, play};
 use std::test::Fail;
 
-// One lane of two sets: `ax` and `cx` are of set 0, `bx` of set 1.
-const TWO_SETS: Config = Config { sets: 2, ..ONE_SET };
+// One lane of two sets: `ax` and `cx` are of set 0, `bx` of set 1. The plans of two threads wait for each other.
+static MEETING: &[u8] = b"
+    together 2; config 1 2 1 2 1 8 1 65536
+    put ax 1 0 nobody; put bx 2 0 logged; put cx 3 0 logged; flush sealed; flush wrote
+    side-by-side
+";
 
-const TO_THE_DEVICE: [Step; 5] = [
-    Step::Put(b"ax", b"1", Pushed::Nobody),
-    Step::Put(b"bx", b"2", Pushed::Logged),
-    Step::Put(b"cx", b"3", Pushed::Logged),
-    Step::Flush(Flushed::Sealed),
-    Step::Flush(Flushed::Wrote),
-];
+static MEETING_LEFT: &[u8] = b"ended finished; calls 3; verdict accepted";
 
-const MOVE: [Step; 1] = [Step::Move(Moved::Written)];
-
-// Two threads, each with one move of the lane, whose plans wait for each other.
-static MEETING: Play = Play {
-    setup: Setup {
-        config: TWO_SETS,
-        pages: 4,
-        together: 2,
-        ..PLAIN
-    },
-    alone: &TO_THE_DEVICE,
-    first: &MOVE,
-    second: &MOVE,
-    ..NOTHING
+static MOVES: Beside<'static> = Beside {
+    first: b"move written",
+    second: b"move written",
 };
 
 #[test]
 fn two_plans_of_a_lane_are_made_at_once(rt: HostRuntime) -> Result<(), Fail> {
-    assert!(rt; is_accepted(&rt, rt.alloc(), &MEETING, 3)?);
-    Ok(())
+    play(&rt, rt.alloc(), MEETING, MOVES, MEETING_LEFT)
 }

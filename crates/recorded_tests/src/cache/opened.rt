@@ -14,28 +14,17 @@ use test_devices::StaleDevice;
 /// A cache whose devices and policy do what a test asks for.
 pub type Cache = SharedCache<TestDevice, TestPolicy, 256>;
 
-/// What waits at the gate.
-#[derive(Clone, Copy)]
-pub enum Held {
-    /// Nothing.
-    Nothing,
-    /// The reads of lane 0.
-    Reads,
-    /// The plans.
-    Plans,
-}
-
 /// What a cache is made of.
 #[derive(Clone, Copy)]
 pub struct Setup {
     /// The numbers of its lanes.
     pub config: Config,
-    /// How many pages each device has.
-    pub pages: u32,
     /// How many callers there are.
     pub callers: u16,
-    /// What waits at the gate.
-    pub held: Held,
+    /// Whether the reads of lane 0 wait at the gate.
+    pub holds_reads: bool,
+    /// Whether the plans do.
+    pub holds_plans: bool,
     /// How many plans are refused.
     pub refused: u32,
     /// How many plans are to be begun before one is made.
@@ -44,30 +33,21 @@ pub struct Setup {
     pub stale: u32,
 }
 
-/// One lane of one set, with one object in memory and two segments of one page.
-pub const ONE_SET: Config = Config {
-    lanes: 1,
-    sets: 1,
-    memory: 1,
-    segments: 2,
-    segment_pages: 1,
-    entries: 8,
-    threshold: 1,
-    admit: 65536,
-};
-
-/// The same with another lane beside it.
-pub const TWO_LANES: Config = Config {
-    lanes: 2,
-    ..ONE_SET
-};
-
-/// A cache of two callers, of which nothing is special.
+/// A cache of two callers, of which nothing is special: one lane of one set, with one object in memory and two segments of one page.
 pub const PLAIN: Setup = Setup {
-    config: ONE_SET,
-    pages: 3,
+    config: Config {
+        lanes: 1,
+        sets: 1,
+        memory: 1,
+        segments: 2,
+        segment_pages: 1,
+        entries: 8,
+        threshold: 1,
+        admit: 65536,
+    },
     callers: 2,
-    held: Held::Nothing,
+    holds_reads: false,
+    holds_plans: false,
     refused: 0,
     together: 0,
     stale: u32::MAX,
@@ -89,10 +69,7 @@ pub fn opened(
 
 // The policy of its moves.
 fn policy_of(setup: &Setup, gate: &Arc<Gate, Global>) -> Result<TestPolicy, Fail> {
-    let gate = match setup.held {
-        Held::Plans => Some(Arc::try_clone(gate)?),
-        _ => None,
-    };
+    let gate = clone_if(setup.holds_plans, gate)?;
     Ok(TestPolicy::new(gate, setup.refused, setup.together))
 }
 
@@ -109,19 +86,28 @@ fn devices_of(
     Ok(devices)
 }
 
-// A lane's device.
+// The gate, if something waits there.
+fn clone_if(is_held: bool, gate: &Arc<Gate, Global>) -> Result<Option<Arc<Gate, Global>>, Fail> {
+    if is_held {
+        return Ok(Some(Arc::try_clone(gate)?));
+    }
+    Ok(None)
+}
+
+// A lane's device, with the pages of its sets and segments.
 fn device(
     alloc: Global,
     setup: &Setup,
     gate: &Arc<Gate, Global>,
     number: u32,
 ) -> Result<TestDevice, Fail> {
-    let gate = match (setup.held, number) {
-        (Held::Reads, 0) => Some(Arc::try_clone(gate)?),
-        _ => None,
-    };
+    let config = setup.config;
+    let pages = config
+        .sets
+        .wrapping_add(config.segments.wrapping_mul(config.segment_pages));
+    let gate = clone_if(setup.holds_reads && number == 0, gate)?;
     Ok(TestDevice {
-        pages: StaleDevice::new(alloc, setup.pages, 0, setup.stale)?,
+        pages: StaleDevice::new(alloc, pages, 0, setup.stale)?,
         gate,
         number,
         sets: setup.config.sets,

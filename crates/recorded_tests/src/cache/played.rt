@@ -1,20 +1,49 @@
-//! What the two callers of a cache do, and what is left of it.
+//! The cache of a test's text, what its two callers do, and what is left of it.
 ghost use Rattle.std.specs.Prelude.{◌≡◌, ◌<◌, All, IfOk};
 
+use super::super::texts::{config_of, is};
 use super::gate::Gate;
 use super::opened::{Cache, PLAIN, Setup, opened};
-use super::run::{Ran, Step, run};
+use super::run::{Ran, call, run};
 use super::test_device::TestDevice;
-use certificate_checker::{Verdict, check};
+use certificate_checker::{Fault, Verdict, check};
 use shared_cache::{FinishFault, Finished, Pass};
 use std::alloc::Global;
+use std::io::Eprint;
 use std::sync::{Arc, Wait};
 use std::test::Fail;
 use std::thread::{Threads, join};
+use test_devices::{Scripted, Step, run_text};
+use trace_file::History;
 
-/// How two callers go on.
+/// A cache that is open, its passes, and the lane of the rounds.
+#[derive(Drop)]
+struct Shared {
+    cache: Cache,
+    first: Pass,
+    second: Pass,
+    lane: u32,
+    ghost first_tie: { first.sight.clock ≡ cache.clock },
+    ghost second_tie: { second.sight.clock ≡ cache.clock },
+    ghost within: { lane < cache.layout.lanes },
+}
+
+/// A cache that is to be ended, with those of its passes and of the kept ones that stand from one place to another, or after its callers
+/// went on in threads.
+#[derive(Drop)]
+struct Job {
+    shared: Box<Shared>,
+    kept: Vec<Pass>,
+    from: usize,
+    to: usize,
+    way: Way,
+}
+
+/// How two callers go on before their cache is ended.
 #[derive(Clone, Copy)]
-pub enum Way {
+enum Way {
+    /// Not at all.
+    Ended,
     /// Each in a thread of its own.
     SideBySide,
     /// Each in a thread of its own, the second after the end of the first.
@@ -23,94 +52,271 @@ pub enum Way {
     AtTheGate,
 }
 
-/// A cache and what its callers do.
-#[derive(Clone, Copy)]
-pub struct Play {
-    pub setup: Setup,
-    /// The lane of the rounds.
-    pub lane: u32,
-    /// What the first caller does alone.
-    pub alone: &'static [Step],
-    /// What both do then.
-    pub way: Way,
-    pub first: &'static [Step],
-    pub second: &'static [Step],
+/// What the steps of a text are of: the cache that is open, passes that are kept of another one, and the caches that are to be ended.
+#[derive(Drop)]
+struct Table<'a, R> {
+    rt: &'a R,
+    setup: Setup,
+    lane: u32,
+    gate: Arc<Gate, Global>,
+    shared: Option<Box<Shared>>,
+    kept: Vec<Pass>,
+    jobs: Vec<Job>,
 }
 
-/// A plain cache with which nothing is done.
-pub const NOTHING: Play = Play {
-    setup: PLAIN,
-    lane: 0,
-    alone: &[],
-    way: Way::SideBySide,
-    first: &[],
-    second: &[],
+/// How caches ended, the first last, and what is left of the one that was looked at last.
+#[derive(Drop)]
+struct Left {
+    ended: Vec<Ended>,
+    left: Option<Box<Finished<TestDevice>>>,
+}
+
+/// What is left of a cache, or why it was not ended.
+type Ended = Result<Box<Finished<TestDevice>>, FinishFault>;
+
+/// What two callers do, each in a thread of its own.
+#[derive(Clone, Copy)]
+pub struct Beside<'a> {
+    pub first: &'a [u8],
+    pub second: &'a [u8],
+}
+
+/// No caller does anything in a thread.
+pub const ALONE: Beside<'static> = Beside {
+    first: b"",
+    second: b"",
 };
 
-/// A cache after its calls, and its passes.
-#[derive(Drop)]
-pub struct Played {
-    pub cache: Cache,
-    pub first: Pass,
-    pub second: Pass,
-}
-
-/// Plays, if each call gives what is written beside it.
-pub fn run_play<R: Threads + Wait + Sync>(
+/// Makes the calls of a text, ends each of its caches, and makes the steps of another text with what is left of them.
+pub fn play<R: Threads + Wait + Sync + Eprint>(
     rt: &R,
     alloc: Global,
-    play: &Play,
-) -> Result<Played, Fail> {
-    if play.lane >= play.setup.config.lanes {
+    text: &[u8],
+    beside: Beside<'_>,
+    left: &[u8],
+) -> Result<(), Fail> {
+    let mut table = Table {
+        rt,
+        setup: PLAIN,
+        lane: 0,
+        gate: Arc::new(alloc, Gate::new())?,
+        shared: None,
+        kept: Vec::new(alloc),
+        jobs: Vec::new(alloc),
+    };
+    run_text(alloc, &mut table, text)?;
+    let ended = end_all(rt, alloc, table.jobs, &table.gate, beside)?;
+    run_text(alloc, &mut Left { ended, left: None }, left)
+}
+
+// Ends caches, the last first.
+fn end_all<R: Threads + Wait + Sync + Eprint>(
+    rt: &R,
+    alloc: Global,
+    jobs: Vec<Job>,
+    gate: &Gate,
+    beside: Beside<'_>,
+) -> Result<Vec<Ended>, Fail> {
+    let mut jobs = jobs;
+    let mut ended = Vec::new(alloc);
+    for _ in 0..jobs.len() {
+        if let Some(job) = jobs.pop() {
+            ended.push(end_job(rt, alloc, job, gate, beside)?)?;
+        }
+    }
+    Ok(ended)
+}
+
+fn end_job<R: Threads + Wait + Sync + Eprint>(
+    rt: &R,
+    alloc: Global,
+    job: Job,
+    gate: &Gate,
+    beside: Beside<'_>,
+) -> Result<Ended, Fail> {
+    let Job {
+        shared,
+        kept,
+        from,
+        to,
+        way,
+    } = job;
+    match way {
+        Way::Ended => end(rt, alloc, Box::into_inner(shared), kept, from, to),
+        _ => end_after(rt, alloc, Box::into_inner(shared), gate, way, beside),
+    }
+}
+
+impl<'a, R: Wait> Scripted for Table<'a, R> {
+    ghost use Rattle.std.specs.Prelude.{⊤};
+
+    ghost can_act = { ⊤ };
+
+    fn act(&mut self, alloc: Global, step: &mut Step<'_>) -> Result<(), Fail> {
+        let word = step.word();
+        if is(word, b"config") {
+            return self.open(alloc, step);
+        }
+        if is(word, b"keep") {
+            return self.keep();
+        }
+        if is(word, b"finish") {
+            return self.finish(step.small() as usize, step.small() as usize, Way::Ended);
+        }
+        if is(word, b"side-by-side") {
+            return self.finish(0, 2, Way::SideBySide);
+        }
+        if is(word, b"one-by-one") {
+            return self.finish(0, 2, Way::OneByOne);
+        }
+        if is(word, b"at-the-gate") {
+            return self.finish(0, 2, Way::AtTheGate);
+        }
+        if self.shared.is_none() {
+            self.set_up(word, step);
+            return Ok(());
+        }
+        match &mut self.shared {
+            Some(shared) => call_first(self.rt, alloc, &mut **shared, word, step),
+            None => Err("a cache".into()),
+        }
+    }
+}
+
+impl Scripted for Left {
+    ghost use Rattle.std.specs.Prelude.{⊤};
+
+    ghost can_act = { ⊤ };
+
+    fn act(&mut self, alloc: Global, step: &mut Step<'_>) -> Result<(), Fail> {
+        let word = step.word();
+        if is(word, b"ended") {
+            return self.look_at_next(step);
+        }
+        let Some(left) = &self.left else {
+            return Err("what is left of a cache".into());
+        };
+        look(alloc, &**left, word, step);
+        Ok(())
+    }
+}
+
+impl<'a, R> Table<'a, R> {
+    // Says what the next cache is made of, or which lane its rounds are of.
+    fn set_up(&mut self, word: &[u8], step: &mut Step<'_>) {
+        if is(word, b"lane") {
+            self.lane = step.small();
+        } else if is(word, b"hold-reads") {
+            self.setup.holds_reads = true;
+        } else if is(word, b"hold-plans") {
+            self.setup.holds_plans = true;
+        } else if is(word, b"refuse") {
+            self.setup.refused = step.small();
+        } else if is(word, b"together") {
+            self.setup.together = step.small();
+        } else if is(word, b"stale") {
+            self.setup.stale = step.small();
+        } else {
+            step.refuse();
+        }
+    }
+
+    // Opens a cache of a configuration.
+    fn open(&mut self, alloc: Global, step: &mut Step<'_>) -> Result<(), Fail> {
+        self.setup.config = config_of(step);
+        self.shared = Some(open_shared(alloc, &self.setup, &self.gate, self.lane)?);
+        self.setup = PLAIN;
+        Ok(())
+    }
+
+    // Drops the cache, and keeps its passes, whose calls were all made at once.
+    fn keep(&mut self) -> Result<(), Fail> {
+        let Some(shared) = self.shared.take() else {
+            return Err("a cache".into());
+        };
+        if !is_at_once(&shared.first) {
+            return Err("out of memory at a call".into());
+        }
+        keep_both(Box::into_inner(shared), &mut self.kept)
+    }
+
+    // Has the cache ended with those of its passes and then of the kept ones that stand from one place to another.
+    fn finish(&mut self, from: usize, to: usize, way: Way) -> Result<(), Fail> {
+        let Some(shared) = self.shared.take() else {
+            return Err("a cache".into());
+        };
+        if !self.kept.is_empty() && !is_at_once(&shared.first) {
+            return Err("out of memory at a call".into());
+        }
+        let kept = self.kept.split_off(0)?;
+        self.jobs.push(Job {
+            shared,
+            kept,
+            from,
+            to,
+            way,
+        })?;
+        Ok(())
+    }
+}
+
+impl Left {
+    // Tells how the next cache ended, and looks at what is left of it. It fails if memory was refused.
+    fn look_at_next(&mut self, step: &mut Step<'_>) -> Result<(), Fail> {
+        match self.ended.pop() {
+            Some(Ok(left)) => {
+                self.left = Some(left);
+                step.tell(b"finished");
+                Ok(())
+            }
+            Some(Err(FinishFault::OutOfMemory)) => Err("out of memory".into()),
+            Some(Err(fault)) => {
+                tell_fault(fault, step);
+                Ok(())
+            }
+            None => Err("a cache".into()),
+        }
+    }
+}
+
+// Tells of what is left of a cache.
+fn look(alloc: Global, left: &Finished<TestDevice>, word: &[u8], step: &mut Step<'_>) {
+    if is(word, b"calls") {
+        step.tell_number(left.history.len() as u64);
+    } else if is(word, b"verdict") {
+        tell_verdict(alloc, left, step);
+    } else if is(word, b"device") {
+        tell_device(left.devices.as_slice(), step);
+    } else if is(word, b"turns") {
+        step.tell(if are_in_turn(&left.history) {
+            b"in turn"
+        } else {
+            b"at once"
+        });
+    } else {
+        step.refuse();
+    }
+}
+
+// An empty cache, and the passes of its two callers.
+fn open_shared(
+    alloc: Global,
+    setup: &Setup,
+    gate: &Arc<Gate, Global>,
+    lane: u32,
+) -> Result<Box<Shared>, Fail> {
+    if lane >= setup.config.lanes {
         return Err("a lane".into());
     }
-    let gate = Arc::new(alloc, Gate::new())?;
-    let (cache, passes) = opened(alloc, &play.setup, &gate)?;
+    let (cache, passes) = opened(alloc, setup, gate)?;
     let (first, second) = two_of(&cache, passes)?;
-    let (first, second) = after(rt, alloc, &cache, &gate, play, first, second);
-    match strayed_of(&first, &second) {
-        None => Ok(Played {
-            cache,
-            first: first.pass,
-            second: second.pass,
-        }),
-        Some(number) => Err(Fail::new(format_args!("step {number}"))),
-    }
-}
-
-/// What is left of a cache after a play.
-pub fn ended<R: Threads + Wait + Sync>(
-    rt: &R,
-    alloc: Global,
-    play: &Play,
-) -> Result<Finished<TestDevice>, Fail> {
-    let Played {
+    let shared = Shared {
         cache,
         first,
         second,
-    } = run_play(rt, alloc, play)?;
-    let passes = Vec::from_array(alloc, [first, second])?;
-    Ok(cache.finish(rt, passes)?)
-}
-
-/// Whether each call of a play gives what is written beside it, and the checker accepts their history, of this many
-/// calls.
-pub fn is_accepted<R: Threads + Wait + Sync>(
-    rt: &R,
-    alloc: Global,
-    play: &Play,
-    calls: usize,
-) -> Result<bool, Fail> {
-    Ok(has_calls(alloc, &ended(rt, alloc, play)?, calls))
-}
-
-/// Whether the checker accepts what is left of a cache, of this many calls.
-pub fn has_calls(alloc: Global, finished: &Finished<TestDevice>, calls: usize) -> bool {
-    finished.history.len() == calls
-        && matches!(
-            check(alloc, &finished.history, &finished.certificate),
-            Ok(Verdict::Accepted)
-        )
+        lane,
+    };
+    Ok(Box::new(alloc, shared)?)
 }
 
 // The two passes of a cache of two callers, the lesser first.
@@ -126,44 +332,118 @@ fn two_of(cache: &Cache, passes: Vec<Pass>) -> Result<(Pass, Pass), Fail>
     Ok((first, second))
 }
 
-// Both callers after their calls. If a call of the first caller alone did not give what is written, that is all.
-fn after<R: Threads + Wait + Sync>(
+// Makes a call of the first caller, or a round of the lane.
+fn call_first<R: Wait>(
     rt: &R,
     alloc: Global,
-    cache: &Cache,
-    gate: &Gate,
-    play: &Play,
-    first: Pass,
-    second: Pass,
-) -> (Ran, Ran)
-    requires first { first.sight.clock ≡ cache.now.clock }
-    requires second { second.sight.clock ≡ cache.now.clock }
-    requires lane { play.now.lane < cache.now.layout.lanes }
-{
-    let ran = run(rt, alloc, cache, first, play.lane, play.alone);
-    if ran.strayed.is_some() {
-        return (ran, Ran::nothing(second));
+    shared: &mut Shared,
+    word: &[u8],
+    step: &mut Step<'_>,
+) -> Result<(), Fail> {
+    call(
+        rt,
+        alloc,
+        &shared.cache,
+        &mut shared.first,
+        shared.lane,
+        word,
+        step,
+    )
+}
+
+// Whether all calls of a pass were made at once: each took three stamps, and no memory was refused, for a call that is made once
+// more starts later than another cache's.
+fn is_at_once(pass: &Pass) -> bool {
+    pass.seen() % 3 == 0 && pass.seen() / 3 == pass.len() as u64
+}
+
+fn keep_both(shared: Shared, kept: &mut Vec<Pass>) -> Result<(), Fail> {
+    let Shared {
+        cache: _,
+        first,
+        second,
+        lane: _,
+    } = shared;
+    kept.push(first)?;
+    kept.push(second)?;
+    Ok(())
+}
+
+// Ends a cache with those of its passes and the kept ones that stand from one place to another.
+fn end<R: Threads + Sync>(
+    rt: &R,
+    alloc: Global,
+    shared: Shared,
+    kept: Vec<Pass>,
+    from: usize,
+    to: usize,
+) -> Result<Ended, Fail> {
+    let Shared {
+        cache,
+        first,
+        second,
+        lane: _,
+    } = shared;
+    let mut passes = Vec::from_array(alloc, [first, second])?;
+    for pass in kept {
+        passes.push(pass)?;
     }
-    match play.way {
-        Way::OneByOne => {
-            let one = in_a_thread(rt, alloc, cache, ran.pass, play.lane, play.first);
-            (
-                one,
-                in_a_thread(rt, alloc, cache, second, play.lane, play.second),
-            )
-        }
-        _ => in_threads(rt, alloc, cache, gate, play, ran.pass, second),
+    passes.truncate(to);
+    let from = from.min(passes.len());
+    boxed(alloc, cache.finish(rt, passes.split_off(from)?))
+}
+
+fn boxed(alloc: Global, ended: Result<Finished<TestDevice>, FinishFault>) -> Result<Ended, Fail> {
+    match ended {
+        Ok(left) => Ok(Ok(Box::new(alloc, left)?)),
+        Err(fault) => Ok(Err(fault)),
     }
 }
 
+// Ends a cache after both callers went on in threads. It fails if a line of theirs is wrong.
+fn end_after<R: Threads + Wait + Sync + Eprint>(
+    rt: &R,
+    alloc: Global,
+    shared: Shared,
+    gate: &Gate,
+    way: Way,
+    beside: Beside<'_>,
+) -> Result<Ended, Fail> {
+    let Shared {
+        cache,
+        first,
+        second,
+        lane,
+    } = shared;
+    let (first, second) = if matches!(way, Way::OneByOne) {
+        let first = in_a_thread(rt, alloc, &cache, first, lane, beside.first);
+        (
+            first,
+            in_a_thread(rt, alloc, &cache, second, lane, beside.second),
+        )
+    } else {
+        let is_held = matches!(way, Way::AtTheGate);
+        in_threads(
+            rt, alloc, &cache, gate, is_held, lane, beside, first, second,
+        )
+    };
+    if !first.is_right || !second.is_right {
+        return Err("a line of a thread".into());
+    }
+    boxed(
+        alloc,
+        cache.finish(rt, Vec::from_array(alloc, [first.pass, second.pass])?),
+    )
+}
+
 // A caller in a thread of its own.
-fn in_a_thread<R: Threads + Wait + Sync>(
+fn in_a_thread<R: Threads + Wait + Sync + Eprint>(
     rt: &R,
     alloc: Global,
     cache: &Cache,
     pass: Pass,
     lane: u32,
-    steps: &[Step],
+    text: &[u8],
 ) -> Ran
     requires clock { pass.sight.clock ≡ cache.now.clock }
     requires lane { lane < cache.now.layout.lanes }
@@ -172,63 +452,102 @@ fn in_a_thread<R: Threads + Wait + Sync>(
         rt,
         || -> Ran
             requires { (pass.sight.clock ≡ cache.now.clock) × (lane < cache.now.layout.lanes) }
-        { run(rt, alloc, cache, pass, lane, steps) },
+        { run(rt, alloc, cache, pass, lane, text) },
         || (),
     );
     ran
 }
 
 // Both callers, each in a thread of its own. If no thread can be made a wait at the gate runs out.
-fn in_threads<R: Threads + Wait + Sync>(
+fn in_threads<R: Threads + Wait + Sync + Eprint>(
     rt: &R,
     alloc: Global,
     cache: &Cache,
     gate: &Gate,
-    play: &Play,
+    is_held: bool,
+    lane: u32,
+    beside: Beside<'_>,
     first: Pass,
     second: Pass,
 ) -> (Ran, Ran)
     requires first { first.sight.clock ≡ cache.now.clock }
     requires second { second.sight.clock ≡ cache.now.clock }
-    requires lane { play.now.lane < cache.now.layout.lanes }
+    requires lane { lane < cache.now.layout.lanes }
 {
     join(
         rt,
         || -> Ran
-            requires { (first.sight.clock ≡ cache.now.clock)
-                × (play.now.lane < cache.now.layout.lanes) }
-        { run(rt, alloc, cache, first, play.lane, play.first) },
+            requires { (first.sight.clock ≡ cache.now.clock) × (lane < cache.now.layout.lanes) }
+        { run(rt, alloc, cache, first, lane, beside.first) },
         || -> Ran
-            requires { (second.sight.clock ≡ cache.now.clock)
-                × (play.now.lane < cache.now.layout.lanes) }
-        { then_open(rt, alloc, cache, gate, play, second) },
+            requires { (second.sight.clock ≡ cache.now.clock) × (lane < cache.now.layout.lanes) }
+        {
+            let is_reached = is_held && gate.is_reached();
+            let ran = run(rt, alloc, cache, second, lane, beside.second);
+            if is_reached {
+                gate.open();
+            }
+            ran
+        },
     )
 }
 
-// The second caller; at the gate it makes its calls once that is reached, and then opens it.
-fn then_open<R: Wait>(
-    rt: &R,
-    alloc: Global,
-    cache: &Cache,
-    gate: &Gate,
-    play: &Play,
-    pass: Pass,
-) -> Ran
-    requires clock { pass.sight.clock ≡ cache.now.clock }
-    requires lane { play.now.lane < cache.now.layout.lanes }
-{
-    let is_reached = matches!(play.way, Way::AtTheGate) && gate.is_reached();
-    let ran = run(rt, alloc, cache, pass, play.lane, play.second);
-    if is_reached {
-        gate.open();
+fn tell_fault(fault: FinishFault, step: &mut Step<'_>) {
+    match fault {
+        FinishFault::MissingPass { caller } => {
+            step.tell(b"missing");
+            step.tell_number(u64::from(caller));
+        }
+        FinishFault::Strange { caller, call } => {
+            step.tell(b"strange");
+            step.tell_number(u64::from(caller));
+            step.tell_number(call as u64);
+        }
+        FinishFault::Unlisted { lane, position } => {
+            step.tell(b"unlisted");
+            step.tell_number(u64::from(lane));
+            step.tell_number(position as u64);
+        }
+        _ => step.tell(b"another fault"),
     }
-    ran
 }
 
-// The number of the first call that did not give what is written beside it.
-fn strayed_of(first: &Ran, second: &Ran) -> Option<usize> {
-    match first.strayed {
-        Some(number) => Some(number),
-        None => second.strayed,
+// Tells what the checker says of what is left of a cache.
+fn tell_verdict(alloc: Global, left: &Finished<TestDevice>, step: &mut Step<'_>) {
+    match check(alloc, &left.history, &left.certificate) {
+        Ok(Verdict::Accepted) => step.tell(b"accepted"),
+        Ok(Verdict::Rejected(Fault::WrongHit { place })) => {
+            step.tell(b"wrong hit");
+            step.tell_number(place as u64);
+        }
+        Ok(_) => step.tell(b"rejected"),
+        Err(_) => step.tell(b"out of memory"),
     }
+}
+
+// Takes the number of a lane, and tells the number of its device, and how many of its pages of the log and of sets were written.
+fn tell_device(devices: &[TestDevice], step: &mut Step<'_>) {
+    match devices.get(step.small() as usize) {
+        Some(device) => {
+            step.tell_number(u64::from(device.number));
+            step.tell_number(u64::from(device.log_writes));
+            step.tell_number(u64::from(device.set_writes));
+        }
+        None => step.tell(b"none"),
+    }
+}
+
+// Whether each call of the second caller starts above each end of the first one's.
+fn are_in_turn(history: &History) -> bool {
+    let mut ended = 0;
+    let mut started = u64::MAX;
+    for position in 0..history.len() {
+        let call = history.at(position);
+        if call.caller == 0 {
+            ended = call.end.max(ended);
+        } else {
+            started = call.start.min(started);
+        }
+    }
+    0 < ended && ended < started && started < u64::MAX
 }

@@ -1,238 +1,277 @@
-//! Calls of a shared cache, each with what it gives.
+//! The calls of a shared cache, by their words.
 ghost use Rattle.std.specs.Prelude.{◌≡◌, ◌<◌};
 
+use super::super::texts::{is, name_of_flush, name_of_pushed, tell_answer};
 use super::opened::Cache;
-use klog::Flushed;
-use record_pages::{Answer, Key, MissCause, NEVER, Pushed, Tier, Value};
+use record_pages::{Answer, NEVER, Pushed};
 use shared_cache::{CallFault, Moved, Pass};
-use std::alloc::Global;
+use std::alloc::{AllocError, Global};
+use std::io::Eprint;
+use std::process::Termination;
 use std::sync::Wait;
+use std::test::Fail;
+use test_devices::{Scripted, Step, key, run_text, value};
 
-/// What a get is to find.
-#[derive(Clone, Copy)]
-pub enum Found {
-    Memory(&'static [u8]),
-    Log(&'static [u8]),
-    Set(&'static [u8]),
-    Absent,
-    Expired,
+// The moment of each get.
+const MOMENT: u64 = 5;
+
+/// A caller of a cache, and the lane of its rounds.
+#[derive(Drop)]
+struct Caller<'a, R> {
+    rt: &'a R,
+    cache: &'a Cache,
+    pass: Pass,
+    lane: u32,
+    ghost tie: { pass.sight.clock ≡ cache.now.clock },
+    ghost within: { lane < cache.now.layout.lanes },
 }
 
-/// A call of a cache, and what it gives.
-#[derive(Clone, Copy)]
-pub enum Step {
-    /// A key, its value, and what becomes of the pair that leaves memory.
-    Put(&'static [u8], &'static [u8], Pushed),
-    /// A key, the word that decides of the pair that leaves memory, and what becomes of that.
-    PutBy(&'static [u8], u32, Pushed),
-    /// A key, when its value expires, and what becomes of the pair that leaves memory.
-    PutUntil(&'static [u8], u64, Pushed),
-    /// A key, and what is found of it at moment 5.
-    Get(&'static [u8], Found),
-    /// A key.
-    Remove(&'static [u8]),
-    /// A step of flushing the lane of the rounds.
-    Flush(Flushed),
-    /// A move of the lane of the rounds.
-    Move(Moved),
-    /// A move of the lane of the rounds of which the plan is refused.
-    MoveRefused,
-    /// A stamp that the pass is told of.
-    Meet(u64),
-    /// A key, of which a get is refused since the clock is full.
-    ClockFull(&'static [u8]),
+impl<'a, R: Wait> Scripted for Caller<'a, R> {
+    ghost use Rattle.std.specs.Prelude.{⊤};
+
+    ghost can_act = { ⊤ };
+
+    fn act(&mut self, alloc: Global, step: &mut Step<'_>) -> Result<(), Fail> {
+        let word = step.word();
+        call(
+            self.rt,
+            alloc,
+            self.cache,
+            &mut self.pass,
+            self.lane,
+            word,
+            step,
+        )
+    }
 }
 
-/// A pass after its calls, and the number of the first that did not give what is written beside it.
+/// A pass after the calls of a text, and whether no line of it was wrong.
 #[derive(Drop)]
 pub struct Ran {
     pub pass: Pass,
-    pub strayed: Option<usize>,
+    pub is_right: bool,
 }
 
-impl Ran {
-    /// A pass with which no call is made.
-    pub fn nothing(pass: Pass) -> Ran {
-        Ran {
-            pass,
-            strayed: None,
-        }
-    }
-}
-
-/// Makes each of these calls, up to the first that does not give what is written beside it.
-pub fn run<R: Wait>(
+/// Makes the calls of a text, if it has any, up to the first line that is wrong, which is printed.
+pub fn run<R: Wait + Eprint>(
     rt: &R,
     alloc: Global,
     cache: &Cache,
-    mut pass: Pass,
+    pass: Pass,
     lane: u32,
-    steps: &[Step],
+    text: &[u8],
 ) -> Ran
     requires clock { pass.sight.clock ≡ cache.now.clock }
     requires lane { lane < cache.now.layout.lanes }
-    ensures { result.pass.sight.clock ≡ cache.now.clock }
 {
-    let mut strayed = None;
-    for number in 0..steps.len() {
-        if !gives(rt, alloc, cache, &mut pass, lane, &steps[number]) {
-            strayed = Some(number);
-            break;
-        }
+    let mut caller = Caller {
+        rt,
+        cache,
+        pass,
+        lane,
+    };
+    let is_right = text.is_empty() || is_run(rt, alloc, &mut caller, text);
+    Ran {
+        pass: caller.pass,
+        is_right,
     }
-    Ran { pass, strayed }
 }
 
-// Whether a call gives what is written beside it.
-fn gives<R: Wait>(
+fn is_run<R: Wait + Eprint>(
+    rt: &R,
+    alloc: Global,
+    caller: &mut Caller<'_, R>,
+    text: &[u8],
+) -> bool {
+    let ended = run_text(alloc, caller, text);
+    let is_right = ended.is_ok();
+    let _ = ended.report(rt);
+    is_right
+}
+
+/// Makes the call that a word names, and tells what it gives.
+pub fn call<R: Wait>(
     rt: &R,
     alloc: Global,
     cache: &Cache,
     pass: &mut Pass,
     lane: u32,
-    step: &Step,
-) -> bool
+    word: &[u8],
+    step: &mut Step<'_>,
+) -> Result<(), Fail>
     requires clock { pass.old.sight.clock ≡ cache.now.clock }
     requires lane { lane < cache.now.layout.lanes }
     ensures { pass.new.sight.clock ≡ cache.now.clock }
 {
-    match step {
-        Step::Put(name, bytes, wanted) => puts(rt, alloc, cache, pass, name, bytes, 0, NEVER)
-            == Some(*wanted),
-        Step::PutBy(name, word, wanted) => puts(rt, alloc, cache, pass, name, b"v", *word, NEVER)
-            == Some(*wanted),
-        Step::PutUntil(name, expires, wanted) => puts(
-            rt, alloc, cache, pass, name, b"v", 0, *expires,
-        ) == Some(*wanted),
-        Step::Get(name, wanted) => is_found(&gets(rt, alloc, cache, pass, name), wanted),
-        Step::Remove(name) => removes(rt, alloc, cache, pass, name),
-        Step::Flush(wanted) => cache.flush_round(rt, lane) == *wanted,
-        Step::Move(wanted) => moves(rt, cache, lane) == Some(*wanted),
-        Step::MoveRefused => cache.move_round(rt, lane).is_err(),
-        Step::Meet(stamp) => pass.meet(*stamp).is_ok(),
-        Step::ClockFull(name) => is_full(rt, alloc, cache, pass, name),
+    if is(word, b"put") || is(word, b"put-until") {
+        return put(rt, alloc, cache, pass, word, step);
+    }
+    if is(word, b"get") {
+        return get(rt, alloc, cache, pass, step);
+    }
+    if is(word, b"remove") {
+        return remove(rt, alloc, cache, pass, step);
+    }
+    if is(word, b"meet") {
+        meet(pass, step);
+        return Ok(());
+    }
+    if is(word, b"listed") {
+        step.tell_number(pass.len() as u64);
+        return Ok(());
+    }
+    turn(rt, cache, lane, word, step);
+    Ok(())
+}
+
+// Tells a pass of a stamp.
+fn meet(pass: &mut Pass, step: &mut Step<'_>)
+    ensures { pass.new.sight.clock ≡ pass.old.sight.clock }
+{
+    if pass.meet(step.number()).is_err() {
+        step.tell(b"clock full");
     }
 }
 
-// Puts a pair by this word and with this expiry, once more if memory was refused.
-fn puts<R: Wait>(
+// Puts a pair with the word that decides of the pair that leaves memory, once more if memory was refused.
+fn put<R: Wait>(
     rt: &R,
     alloc: Global,
     cache: &Cache,
     pass: &mut Pass,
-    name: &[u8],
-    bytes: &[u8],
-    word: u32,
-    expires: u64,
-) -> Option<Pushed>
+    word: &[u8],
+    step: &mut Step<'_>,
+) -> Result<(), Fail>
     requires { pass.old.sight.clock ≡ cache.now.clock }
     ensures { pass.new.sight.clock ≡ cache.now.clock }
 {
+    let name = step.bytes();
+    let bytes = step.bytes();
+    let low = step.small();
+    let expires = if is(word, b"put") {
+        NEVER
+    } else {
+        step.number()
+    };
     let first = cache.put(
         rt,
         pass,
-        key(alloc, name)?,
-        value(alloc, bytes)?,
-        word,
+        key(alloc, &name)?,
+        value(alloc, &bytes)?,
+        low,
         expires,
     );
     match first {
-        Ok(pushed) => Some(pushed),
         Err(CallFault::OutOfMemory) => {
-            cache
-                .put(
-                    rt,
-                    pass,
-                    key(alloc, name)?,
-                    value(alloc, bytes)?,
-                    word,
-                    expires,
-                )
-                .ok()
+            let again = cache.put(
+                rt,
+                pass,
+                key(alloc, &name)?,
+                value(alloc, &bytes)?,
+                low,
+                expires,
+            );
+            Ok(tell_stored(again, step))
         }
-        Err(_) => None,
+        other => Ok(tell_stored(other, step)),
     }
 }
 
-// Looks a key up at moment 5, once more if memory was refused.
-fn gets<R: Wait>(
+fn tell_stored(stored: Result<Pushed, CallFault>, step: &mut Step<'_>) {
+    step.tell(match stored {
+        Ok(pushed) => name_of_pushed(pushed),
+        Err(fault) => name_of_fault(&fault),
+    });
+}
+
+// Gets a key, once more if memory was refused.
+fn get<R: Wait>(
     rt: &R,
     alloc: Global,
     cache: &Cache,
     pass: &mut Pass,
-    name: &[u8],
-) -> Result<Answer, CallFault>
+    step: &mut Step<'_>,
+) -> Result<(), Fail>
     requires { pass.old.sight.clock ≡ cache.now.clock }
     ensures { pass.new.sight.clock ≡ cache.now.clock }
 {
-    let Some(key) = key(alloc, name) else {
-        return Err(CallFault::OutOfMemory);
-    };
-    match cache.get(rt, pass, &key, 5) {
-        Err(CallFault::OutOfMemory) => cache.get(rt, pass, &key, 5),
-        Ok(answer) => Ok(answer),
-        Err(fault) => Err(fault),
+    let key = step.key(alloc)?;
+    match cache.get(rt, pass, &key, MOMENT) {
+        Err(CallFault::OutOfMemory) => Ok(tell_got(cache.get(rt, pass, &key, MOMENT), step)),
+        other => Ok(tell_got(other, step)),
+    }
+}
+
+fn tell_got(answer: Result<Answer, CallFault>, step: &mut Step<'_>) {
+    match answer {
+        Ok(answer) => tell_answer(&answer, step),
+        Err(fault) => step.tell(name_of_fault(&fault)),
     }
 }
 
 // Removes a key, once more if memory was refused.
-fn removes<R: Wait>(rt: &R, alloc: Global, cache: &Cache, pass: &mut Pass, name: &[u8]) -> bool
+fn remove<R: Wait>(
+    rt: &R,
+    alloc: Global,
+    cache: &Cache,
+    pass: &mut Pass,
+    step: &mut Step<'_>,
+) -> Result<(), Fail>
     requires { pass.old.sight.clock ≡ cache.now.clock }
     ensures { pass.new.sight.clock ≡ cache.now.clock }
 {
-    let Some(key) = key(alloc, name) else {
-        return false;
-    };
+    let key = step.key(alloc)?;
     match cache.remove(rt, pass, &key) {
-        Ok(()) => true,
-        Err(CallFault::OutOfMemory) => cache.remove(rt, pass, &key).is_ok(),
-        Err(_) => false,
+        Err(CallFault::OutOfMemory) => Ok(tell_removed(cache.remove(rt, pass, &key), step)),
+        other => Ok(tell_removed(other, step)),
     }
 }
 
-// Moves the objects of a lane, once more if memory was refused.
-fn moves<R: Wait>(rt: &R, cache: &Cache, lane: u32) -> Option<Moved>
+fn tell_removed(removed: Result<(), CallFault>, step: &mut Step<'_>) {
+    if let Err(fault) = removed {
+        step.tell(name_of_fault(&fault));
+    }
+}
+
+fn name_of_fault(fault: &CallFault) -> &'static [u8] {
+    match fault {
+        CallFault::TooLarge => b"too large",
+        CallFault::ClockFull => b"clock full",
+        CallFault::OutOfMemory => b"out of memory",
+        _ => b"another fault",
+    }
+}
+
+// Takes a step of flushing the lane, or moves in it; a move that is refused is tried once more, unless it is to be made once.
+fn turn<R: Wait>(rt: &R, cache: &Cache, lane: u32, word: &[u8], step: &mut Step<'_>)
     requires { lane < cache.now.layout.lanes }
 {
-    match cache.move_round(rt, lane) {
-        Ok(moved) => Some(moved),
-        Err(_) => cache.move_round(rt, lane).ok(),
+    if is(word, b"flush") {
+        step.tell(name_of_flush(cache.flush_round(rt, lane)));
+    } else if is(word, b"move-once") {
+        step.tell(name_of_move(cache.move_round(rt, lane)));
+    } else if is(word, b"move") {
+        step.tell(name_of_move(match cache.move_round(rt, lane) {
+            Err(_) => cache.move_round(rt, lane),
+            other => other,
+        }));
+    } else {
+        step.refuse();
     }
 }
 
-// Whether a get of a key is refused since the clock is full, and the pass lists no call more.
-fn is_full<R: Wait>(rt: &R, alloc: Global, cache: &Cache, pass: &mut Pass, name: &[u8]) -> bool
-    requires { pass.old.sight.clock ≡ cache.now.clock }
-    ensures { pass.new.sight.clock ≡ cache.now.clock }
-{
-    let count = pass.len();
-    let answer = gets(rt, alloc, cache, pass, name);
-    matches!(&answer, Err(CallFault::ClockFull)) && pass.len() == count
-}
-
-// The key of these bytes, made once more if memory was refused.
-fn key(alloc: Global, bytes: &[u8]) -> Option<Key> {
-    match Key::new(alloc, bytes) {
-        Ok(key) => Some(key),
-        Err(_) => Key::new(alloc, bytes).ok(),
-    }
-}
-
-// The value of these bytes, made once more if memory was refused.
-fn value(alloc: Global, bytes: &[u8]) -> Option<Value> {
-    match Value::new(alloc, bytes) {
-        Ok(value) => Some(value),
-        Err(_) => Value::new(alloc, bytes).ok(),
-    }
-}
-
-fn is_found(answer: &Result<Answer, CallFault>, wanted: &Found) -> bool {
-    match (answer, wanted) {
-        (Ok(Answer::Hit(value, Tier::Memory)), Found::Memory(bytes)) => value.bytes() == *bytes,
-        (Ok(Answer::Hit(value, Tier::Log)), Found::Log(bytes)) => value.bytes() == *bytes,
-        (Ok(Answer::Hit(value, Tier::Set)), Found::Set(bytes)) => value.bytes() == *bytes,
-        (Ok(Answer::Miss(MissCause::Absent)), Found::Absent) => true,
-        (Ok(Answer::Miss(MissCause::Expired)), Found::Expired) => true,
-        _ => false,
+fn name_of_move(moved: Result<Moved, AllocError>) -> &'static [u8] {
+    match moved {
+        Ok(Moved::Nothing) => b"nothing",
+        Ok(Moved::Busy) => b"busy",
+        Ok(Moved::Readmitted) => b"readmitted",
+        Ok(Moved::Dropped) => b"dropped",
+        Ok(Moved::PageLost) => b"page lost",
+        Ok(Moved::Freed) => b"freed",
+        Ok(Moved::Written) => b"written",
+        Ok(Moved::Forgotten) => b"forgotten",
+        Ok(Moved::StalePlan) => b"stale plan",
+        Ok(Moved::BadPlan) => b"bad plan",
+        Err(_) => b"refused",
     }
 }

@@ -1,98 +1,54 @@
 //! Callers in threads of their own.
-use super::opened::{ONE_SET, PLAIN, Setup, TWO_LANES};
-use super::played::{NOTHING, Play, Way, ended, is_accepted};
-use super::run::{Found, Step};
-use record_pages::{Config, Pushed};
+use super::played::{ALONE, Beside, play};
 use std::test::Fail;
-use trace_file::History;
 
-const MANY: Setup = Setup {
-    config: Config {
-        memory: 64,
-        ..ONE_SET
-    },
-    ..PLAIN
+static EACH_ITS_OWN: Beside<'static> = Beside {
+    first: b"put tx 1 0 nobody; get tx memory 1; remove tx; get tx absent",
+    second: b"put ux 2 0 nobody; get ux memory 2; remove ux; get ux absent",
 };
 
-const FIRST: [Step; 4] = [
-    Step::Put(b"tx", b"1", Pushed::Nobody),
-    Step::Get(b"tx", Found::Memory(b"1")),
-    Step::Remove(b"tx"),
-    Step::Get(b"tx", Found::Absent),
-];
+static SIDE_BY_SIDE: &[u8] = b"
+    config 1 1 64 2 1 8 1 65536
+    side-by-side
+";
 
-const SECOND: [Step; 4] = [
-    Step::Put(b"ux", b"2", Pushed::Nobody),
-    Step::Get(b"ux", Found::Memory(b"2")),
-    Step::Remove(b"ux"),
-    Step::Get(b"ux", Found::Absent),
-];
-
-static SIDE_BY_SIDE: Play = Play {
-    setup: MANY,
-    first: &FIRST,
-    second: &SECOND,
-    ..NOTHING
-};
+static SIDE_BY_SIDE_LEFT: &[u8] = b"ended finished; calls 8; verdict accepted";
 
 #[test]
 fn two_threads_each_find_their_own(rt: HostRuntime) -> Result<(), Fail> {
-    assert!(rt; is_accepted(&rt, rt.alloc(), &SIDE_BY_SIDE, 8)?);
-    Ok(())
-}
-
-// Whether each call of the second caller starts above each end of the first one's.
-fn is_after(history: &History) -> bool {
-    let mut ended = 0;
-    let mut started = u64::MAX;
-    for position in 0..history.len() {
-        let call = history.at(position);
-        if call.caller == 0 {
-            ended = call.end.max(ended);
-        } else {
-            started = call.start.min(started);
-        }
-    }
-    0 < ended && ended < started && started < u64::MAX
+    play(
+        &rt,
+        rt.alloc(),
+        SIDE_BY_SIDE,
+        EACH_ITS_OWN,
+        SIDE_BY_SIDE_LEFT,
+    )
 }
 
 // The first key is of lane 1, the other of lane 0, so that nothing but the clock is between them.
-static ONE_BY_ONE: Play = Play {
-    setup: Setup {
-        config: TWO_LANES,
-        ..PLAIN
-    },
-    way: Way::OneByOne,
-    first: &FIRST,
-    second: &SECOND,
-    ..NOTHING
-};
+static ONE_BY_ONE: &[u8] = b"
+    config 2 1 1 2 1 8 1 65536
+    one-by-one
+";
+
+static ONE_BY_ONE_LEFT: &[u8] = b"ended finished; calls 8; turns in turn";
 
 #[test]
 fn a_later_thread_starts_above_the_ends_of_a_joined_one(rt: HostRuntime) -> Result<(), Fail> {
-    let finished = ended(&rt, rt.alloc(), &ONE_BY_ONE)?;
-    assert!(rt; finished.history.len() == 8 && is_after(&finished.history));
-    Ok(())
+    play(&rt, rt.alloc(), ONE_BY_ONE, EACH_ITS_OWN, ONE_BY_ONE_LEFT)
 }
 
-// The last stamp but one.
-const NEARLY_FULL: u64 = 9_223_372_036_854_775_806;
+// The pass is told of the last stamp but one.
+static FULL: &[u8] = b"
+    config 1 1 64 2 1 8 1 65536
+    put tx 1 0 nobody; meet 9223372036854775806
+    listed 1; get tx clock full; listed 1; get tx clock full; listed 1
+    finish 0 2
+";
 
-const UNTIL_FULL: [Step; 4] = [
-    Step::Put(b"tx", b"1", Pushed::Nobody),
-    Step::Meet(NEARLY_FULL),
-    Step::ClockFull(b"tx"),
-    Step::ClockFull(b"tx"),
-];
-
-static FULL: Play = Play {
-    setup: MANY,
-    alone: &UNTIL_FULL,
-    ..NOTHING
-};
+static FULL_LEFT: &[u8] = b"ended finished; calls 1; verdict accepted";
 
 #[test]
 fn a_full_clock_refuses_calls_and_records_none(rt: HostRuntime) -> Result<(), Fail> {
-    assert!(rt; is_accepted(&rt, rt.alloc(), &FULL, 1)?);
-    Ok(())
+    play(&rt, rt.alloc(), FULL, ALONE, FULL_LEFT)
 }

@@ -3,63 +3,135 @@ ghost use Rattle.std.specs.Prelude.{◌≡◌, ◌≤◌, ◌^◌, All, IfOk, le
 ghost use Rattle.std.specs.List.{flat_map};
 ghost use Rattle.certificate_checker.specs.Lanes.{calls_of, PointsRise};
 
+use super::super::texts::is;
 use certificate_checker::{Done, Verdict, check};
 use history_recorder::{Dones, lay_out};
 use record_pages::{Key, NEVER, Value};
 use std::alloc::Global;
 use std::test::Fail;
+use test_devices::{Scripted, Step, run_text};
 use trace_file::{Act, ActRef, Call, CallRef, Certificate, History};
 
-/// A put of a key with itself as value: the key, the start, the point and the end.
+/// A put of a key with itself as value, in a lane.
 #[derive(Clone, Copy)]
-struct Put(&'static [u8], u64, u64, u64);
-
-/// Lanes, and what they are laid out as: the keys of the history, each of one byte, and the certificate.
-#[derive(Clone, Copy)]
-struct Row {
-    lanes: &'static [&'static [Put]],
-    keys: &'static [u8],
-    certificate: &'static [u32],
+struct Put<'a> {
+    lane: u32,
+    key: &'a [u8],
+    start: u64,
+    point: u64,
+    end: u64,
 }
 
-fn done_of(alloc: Global, put: &Put) -> Result<Done, Fail>
-    ensures { IfOk result (λ done. done.point ≡ put.now.2) }
+/// Puts of lanes, one lane after the other, counted from 1.
+#[derive(Drop)]
+struct Asked<'a> {
+    lanes: u32,
+    puts: Vec<Put<'a>>,
+}
+
+/// Lanes that are laid out, and lists of done calls.
+#[derive(Drop)]
+struct Layouts;
+
+impl Scripted for Layouts {
+    ghost use Rattle.std.specs.Prelude.{⊤};
+
+    ghost can_act = { ⊤ };
+
+    fn act(&mut self, alloc: Global, step: &mut Step<'_>) -> Result<(), Fail> {
+        let word = step.word();
+        let asked = asked_of(alloc, step)?;
+        if is(word, b"lay") {
+            return lay(alloc, &asked, step);
+        }
+        let list = if is(word, b"list") {
+            lane_of(alloc, asked.puts.as_slice())?
+        } else {
+            kept_of(alloc, asked.puts.as_slice())?
+        };
+        tell_list(&list, step);
+        Ok(())
+    }
+}
+
+// Takes puts up to the word `gives`, each by its key, start, point and end; the word `lane` stands before those of a lane.
+fn asked_of<'a>(alloc: Global, step: &mut Step<'a>) -> Result<Asked<'a>, Fail> {
+    let mut lanes = 0u32;
+    let mut puts = Vec::new(alloc);
+    for _ in 0..32usize {
+        let key = step.word();
+        if key.is_empty() || is(key, b"gives") {
+            break;
+        }
+        if is(key, b"lane") {
+            lanes = lanes.wrapping_add(1);
+            continue;
+        }
+        puts.push(Put {
+            lane: lanes,
+            key,
+            start: step.number(),
+            point: step.number(),
+            end: step.number(),
+        })?;
+    }
+    Ok(Asked { lanes, puts })
+}
+
+fn done_of(alloc: Global, put: &Put<'_>) -> Result<Done, Fail>
+    ensures { IfOk result (λ done. done.point ≡ put.now.point) }
 {
     let call = Call {
         caller: 7,
-        start: put.1,
-        end: put.3,
-        key: Key::new(alloc, put.0)?,
-        act: Act::Put(Value::new(alloc, put.0)?, NEVER),
+        start: put.start,
+        end: put.end,
+        key: Key::new(alloc, put.key)?,
+        act: Act::Put(Value::new(alloc, put.key)?, NEVER),
     };
-    Ok(Done { call, point: put.2 })
+    Ok(Done {
+        call,
+        point: put.point,
+    })
 }
 
 /// The lane of some puts, whose points rise from 1 on.
-fn lane_of(alloc: Global, puts: &[Put]) -> Result<Dones, Fail>
+fn lane_of(alloc: Global, puts: &[Put<'_>]) -> Result<Dones, Fail>
     ensures rise { IfOk result (λ lane. PointsRise lane) }
     ensures count { IfOk result (λ lane. length lane ≡ length puts.now) }
 {
     let mut lane = Dones::new(alloc);
     let mut last = 0;
     for put in puts {
-        if put.2 <= last {
+        if put.point <= last {
             return Err("a point that does not rise".into());
         }
         lane.push(done_of(alloc, put)?)?;
-        last = put.2;
+        last = put.point;
     }
     Ok(lane)
 }
 
-/// The lanes of these puts, at most a hundred in all.
-fn lanes_of(alloc: Global, rows: &[&[Put]]) -> Result<Vec<Dones>, Fail>
+// The puts of a lane.
+fn own_of<'a>(puts: &'a [Put<'a>], lane: u32) -> &'a [Put<'a>] {
+    let Some(from) = puts.iter().position(|p| p.lane == lane) else {
+        return &[];
+    };
+    let own = &puts[from..];
+    match own.iter().position(|p| p.lane != lane) {
+        Some(to) => &own[..to],
+        None => own,
+    }
+}
+
+/// The lanes of puts, at most a hundred in all.
+fn lanes_of(alloc: Global, asked: &Asked<'_>) -> Result<Vec<Dones>, Fail>
     ensures rise { IfOk result (λ lanes. All PointsRise lanes.items) }
     ensures few { IfOk result (λ lanes. length (flat_map calls_of lanes.items) ≤ 100) }
 {
     let mut lanes = Vec::new(alloc);
     let mut left: usize = 100;
-    for puts in rows {
+    for lane in 0..asked.lanes {
+        let puts = own_of(asked.puts.as_slice(), lane + 1);
         if puts.len() > left {
             return Err("too many puts".into());
         }
@@ -69,179 +141,81 @@ fn lanes_of(alloc: Global, rows: &[&[Put]]) -> Result<Vec<Dones>, Fail>
     Ok(lanes)
 }
 
-/// Whether the lanes of a row are laid out as it says, once more if memory was refused, and the checker accepts that.
-fn is_laid_out(alloc: Global, row: &Row) -> Result<bool, Fail> {
-    let (history, certificate) = match lay_out(alloc, lanes_of(alloc, row.lanes)?) {
+// Lays lanes out, once more if memory was refused. Tells each call by its key, start and end, the certificate, and what the checker
+// says.
+fn lay(alloc: Global, asked: &Asked<'_>, step: &mut Step<'_>) -> Result<(), Fail> {
+    let (history, certificate) = match lay_out(alloc, lanes_of(alloc, asked)?) {
         Ok(laid) => laid,
-        Err(_) => lay_out(alloc, lanes_of(alloc, row.lanes)?)?,
+        Err(_) => lay_out(alloc, lanes_of(alloc, asked)?)?,
     };
-    let verdict = check(alloc, &history, &certificate)?;
-    Ok(
-        has_keys(&history, row.keys)
-            && lists(&certificate, row.certificate)
-            && verdict == Verdict::Accepted,
-    )
+    tell_calls(&history, step);
+    tell_order(&certificate, step);
+    step.tell(if check(alloc, &history, &certificate)? == Verdict::Accepted {
+        b"accepted"
+    } else {
+        b"rejected"
+    });
+    Ok(())
 }
 
-/// The first of some rows that is not laid out as it says.
-fn first_wrong(alloc: Global, rows: &[Row]) -> Result<Option<usize>, Fail> {
-    for number in 0..rows.len() {
-        if !is_laid_out(alloc, &rows[number])? {
-            return Ok(Some(number));
-        }
+fn tell_calls(history: &History, step: &mut Step<'_>) {
+    for position in 0..history.len() {
+        let call = history.at(position);
+        tell_put(&call, step);
+        step.tell_number(call.end);
     }
-    Ok(None)
 }
 
-/// Whether the calls of a history are puts of these keys, each of one byte and with itself as value.
-fn has_keys(history: &History, keys: &[u8]) -> bool {
-    if history.len() != keys.len() {
-        return false;
+fn tell_order(certificate: &Certificate, step: &mut Step<'_>) {
+    step.tell(b"order");
+    for place in 0..certificate.len() {
+        step.tell_number(u64::from(certificate.at(place)));
     }
-    for position in 0..keys.len() {
-        if !is_put(&history.at(position), keys[position]) {
-            return false;
-        }
+}
+
+// Tells a put by its key and start: it has the key as value too, never expires, and is of caller 7.
+fn tell_put(call: &CallRef<'_>, step: &mut Step<'_>) {
+    step.tell(call.key);
+    step.tell_number(call.start);
+    if !is_put(call) {
+        step.refuse();
     }
-    true
 }
 
-fn is_put(call: &CallRef<'_>, key: u8) -> bool {
-    let bytes = [key];
-    puts(call, bytes.as_slice())
-}
-
-fn puts(call: &CallRef<'_>, key: &[u8]) -> bool {
+fn is_put(call: &CallRef<'_>) -> bool {
     match call.act {
-        ActRef::Put(value, expires) => expires == NEVER
-            && call.caller == 7
-            && call.key == key
-            && value == key,
+        ActRef::Put(value, expires) => { expires == NEVER && call.caller == 7 && value == call.key }
         _ => false,
     }
 }
 
-fn lists(certificate: &Certificate, positions: &[u32]) -> bool {
-    if certificate.len() != positions.len() {
-        return false;
+// Tells each call of a list by its key, start, point and end.
+fn tell_list(list: &Dones, step: &mut Step<'_>) {
+    if list.is_empty() {
+        step.tell(b"empty");
     }
-    for place in 0..positions.len() {
-        if certificate.at(place) != positions[place] {
-            return false;
-        }
+    for number in 0..list.len() {
+        let call = list.at(number);
+        tell_put(&call, step);
+        step.tell_number(list.point(number));
+        step.tell_number(call.end);
     }
-    true
-}
-
-static ROWS: [Row; 7] = [
-    Row {
-        lanes: &[],
-        keys: b"",
-        certificate: &[],
-    },
-    Row {
-        lanes: &[&[Put(b"a", 1, 4, 5)], &[Put(b"b", 2, 3, 6)]],
-        keys: b"ab",
-        certificate: &[1, 0],
-    },
-    Row {
-        lanes: &[&[Put(b"a", 1, 4, 5)], &[], &[Put(b"b", 2, 3, 6)]],
-        keys: b"ab",
-        certificate: &[1, 0],
-    },
-    Row {
-        lanes: &[&[], &[]],
-        keys: b"",
-        certificate: &[],
-    },
-    Row {
-        lanes: &[&[Put(b"a", 1, 5, 9)], &[Put(b"b", 2, 5, 8)]],
-        keys: b"ab",
-        certificate: &[0, 1],
-    },
-    Row {
-        lanes: &[
-            &[Put(b"a", 4, 6, 7)],
-            &[Put(b"b", 2, 5, 8), Put(b"c", 5, 6, 9)],
-            &[Put(b"d", 1, 5, 6)],
-        ],
-        keys: b"abcd",
-        certificate: &[1, 3, 0, 2],
-    },
-    Row {
-        lanes: &[
-            &[Put(b"a", 1, 2, 4), Put(b"d", 8, 9, 9)],
-            &[
-                Put(b"b", 0, 3, 5),
-                Put(b"e", 4, 5, 6),
-                Put(b"f", 2, 10, 18446744073709551615),
-            ],
-            &[Put(b"c", 0, 1, 1), Put(b"g", 6, 7, 8)],
-        ],
-        keys: b"adbefcg",
-        certificate: &[5, 0, 2, 3, 6, 1, 4],
-    },
-];
-
-#[test]
-fn lanes_are_laid_out_by_point_and_lane(rt: HostRuntime) -> Result<(), Fail> {
-    assert!(rt; first_wrong(rt.alloc(), &ROWS)? == None);
-    Ok(())
-}
-
-/// Two lanes with a call each.
-static ONE_EACH: &[&[Put]] = &[&[Put(b"a", 1, 4, 5)], &[Put(b"b", 2, 3, 6)]];
-
-/// Whether a history has two calls with the starts and ends of these.
-fn has_both(history: &History) -> bool {
-    if history.len() != 2 {
-        return false;
-    }
-    let (first, second) = (history.at(0), history.at(1));
-    first.start == 1 && first.end == 5 && second.start == 2 && second.end == 6
-}
-
-#[test]
-fn a_laid_out_call_has_its_start_and_end(rt: HostRuntime) -> Result<(), Fail> {
-    let (history, _) = lay_out(rt.alloc(), lanes_of(rt.alloc(), ONE_EACH)?)?;
-    assert!(rt; has_both(&history));
-    Ok(())
-}
-
-/// Whether the call of a list with this number is this put, done as it says.
-fn is_done(lane: &Dones, number: usize, put: &Put) -> bool {
-    if number >= lane.len() {
-        return false;
-    }
-    let call = lane.at(number);
-    puts(&call, put.0) && call.start == put.1 && lane.point(number) == put.2 && call.end == put.3
-}
-
-/// Whether the calls of a list are these two puts, done as they say.
-fn has_two(lane: &Dones, first: &Put, second: &Put) -> bool {
-    lane.len() == 2 && !lane.is_empty() && is_done(lane, 0, first) && is_done(lane, 1, second)
-}
-
-const FIRST: Put = Put(b"a", 1, 2, 3);
-
-const SECOND: Put = Put(b"b", 4, 5, 7);
-
-#[test]
-fn a_list_of_done_calls_gives_its_calls_back(rt: HostRuntime) -> Result<(), Fail> {
-    assert!(rt; Dones::new(rt.alloc()).is_empty());
-    let lane = lane_of(rt.alloc(), &[FIRST, SECOND])?;
-    assert!(rt; has_two(&lane, &FIRST, &SECOND));
-    Ok(())
 }
 
 /// The list of some puts, of their calls as a lane keeps them, each with its point for its end, and of their ends.
-fn kept_of(alloc: Global, puts: &[Put]) -> Result<Dones, Fail> {
+fn kept_of(alloc: Global, puts: &[Put<'_>]) -> Result<Dones, Fail> {
     let mut calls = History::new(alloc);
     let mut ends = Vec::new(alloc);
     for put in puts {
-        let kept = done_of(alloc, &Put(put.0, put.1, put.2, put.2))?;
+        let kept = done_of(
+            alloc,
+            &Put {
+                end: put.point,
+                ..*put
+            },
+        )?;
         calls.push(kept.call)?;
-        ends.push(put.3)?;
+        ends.push(put.end)?;
     }
     if calls.len() != ends.len() {
         return Err("calls without an end".into());
@@ -249,9 +223,40 @@ fn kept_of(alloc: Global, puts: &[Put]) -> Result<Dones, Fail> {
     Ok(Dones::of(calls, ends))
 }
 
+// A put has a key, a start, a point and an end.
+static LAID_OUT: &[u8] = b"
+    lay gives order accepted
+    lay lane a 1 4 5 lane b 2 3 6 gives a 1 5 b 2 6 order 1 0 accepted
+    lay lane a 1 4 5 lane lane b 2 3 6 gives a 1 5 b 2 6 order 1 0 accepted
+    lay lane lane gives order accepted
+    lay lane a 1 5 9 lane b 2 5 8 gives a 1 9 b 2 8 order 0 1 accepted
+    lay lane a 4 6 7 lane b 2 5 8 c 5 6 9 lane d 1 5 6 gives a 4 7 b 2 8 c 5 9 d 1 6 order 1 3 0 2 accepted
+    # The last end of all is the greatest number.
+    lay lane a 1 2 4 d 8 9 9 lane b 0 3 5 e 4 5 6 f 2 10 18446744073709551615 lane c 0 1 1 g 6 7 8 gives a 1 4 d 8 9 b 0 5 e 4 6 f 2 18446744073709551615 c 0 1 g 6 8 order 5 0 2 3 6 1 4 accepted
+";
+
+#[test]
+fn lanes_are_laid_out_by_point_and_lane(rt: HostRuntime) -> Result<(), Fail> {
+    run_text(rt.alloc(), &mut Layouts, LAID_OUT)
+}
+
+static ONE_EACH: &[u8] = b"lay lane a 1 4 5 lane b 2 3 6 gives a 1 5 b 2 6 order 1 0 accepted";
+
+#[test]
+fn a_laid_out_call_has_its_start_and_end(rt: HostRuntime) -> Result<(), Fail> {
+    run_text(rt.alloc(), &mut Layouts, ONE_EACH)
+}
+
+static LISTED: &[u8] = b"list gives empty; list a 1 2 3 b 4 5 7 gives a 1 2 3 b 4 5 7";
+
+#[test]
+fn a_list_of_done_calls_gives_its_calls_back(rt: HostRuntime) -> Result<(), Fail> {
+    run_text(rt.alloc(), &mut Layouts, LISTED)
+}
+
+static KEPT: &[u8] = b"keep gives empty; keep a 1 2 3 b 4 5 7 gives a 1 2 3 b 4 5 7";
+
 #[test]
 fn kept_calls_get_the_ends_beside_them(rt: HostRuntime) -> Result<(), Fail> {
-    let lane = kept_of(rt.alloc(), &[FIRST, SECOND])?;
-    assert!(rt; has_two(&lane, &FIRST, &SECOND));
-    Ok(())
+    run_text(rt.alloc(), &mut Layouts, KEPT)
 }

@@ -1,90 +1,28 @@
 //! Moves that are begun and never finished: the calls of their lane go on, and are accepted.
-use super::worlds::{Begins, Called, Happens, Row, plays};
+use super::worlds::play_text;
 use std::test::Fail;
 
 // Ten keys of ten different ones of sixteen sets are put; the last is in memory then, and the others are written to the log. As many
 // moves begin as may, and one more is tried. After that each key is got, and some are replaced or removed and got again.
-static UNFINISHED: Row = Row {
-    lanes: 1,
-    sets: 16,
-    memory: 1,
-    events: &[
-        Happens::Whole(Begins::Put(0, b"ax", b"1")),
-        Happens::Whole(Begins::Put(0, b"bx", b"1")),
-        Happens::Whole(Begins::Put(0, b"cx", b"1")),
-        Happens::Whole(Begins::Put(0, b"dx", b"1")),
-        Happens::Whole(Begins::Put(0, b"ex", b"1")),
-        Happens::Whole(Begins::Put(0, b"fx", b"1")),
-        Happens::Whole(Begins::Put(0, b"gx", b"1")),
-        Happens::Whole(Begins::Put(0, b"hx", b"1")),
-        Happens::Whole(Begins::Put(0, b"ix", b"1")),
-        Happens::Whole(Begins::Put(0, b"jx", b"1")),
-        Happens::Flush(0),
-        Happens::Flush(0),
-        Happens::MoveBegin(0),
-        Happens::MoveBegin(0),
-        Happens::MoveBegin(0),
-        Happens::MoveBegin(0),
-        Happens::MoveBegin(0),
-        Happens::MoveBegin(0),
-        Happens::MoveBegin(0),
-        Happens::MoveBegin(0),
-        Happens::MoveBegin(0),
-        Happens::Whole(Begins::Get(0, b"ax")),
-        Happens::Whole(Begins::Get(0, b"bx")),
-        Happens::Whole(Begins::Get(0, b"cx")),
-        Happens::Whole(Begins::Get(0, b"dx")),
-        Happens::Whole(Begins::Get(0, b"ex")),
-        Happens::Whole(Begins::Get(0, b"fx")),
-        Happens::Whole(Begins::Get(0, b"gx")),
-        Happens::Whole(Begins::Get(0, b"hx")),
-        Happens::Whole(Begins::Get(0, b"ix")),
-        Happens::Whole(Begins::Get(0, b"jx")),
-        Happens::Whole(Begins::Put(0, b"ax", b"2")),
-        Happens::Whole(Begins::Remove(0, b"bx")),
-        Happens::Whole(Begins::Get(0, b"ax")),
-        Happens::Whole(Begins::Get(0, b"bx")),
-        Happens::Whole(Begins::Get(0, b"cx")),
-        Happens::Whole(Begins::Get(0, b"jx")),
-        Happens::MoveBegin(0),
-    ],
-    replies: b"bpebpebpebpebpebpebpebpebpebpeswjjjjjjjjybhebhebhebhebhebhebhebhebhebhebpebrebhebmebhebhey",
-    history: &[
-        Called(0, 1, 3, b"ax", b'p', b"1"),
-        Called(0, 4, 6, b"bx", b'p', b"1"),
-        Called(0, 7, 9, b"cx", b'p', b"1"),
-        Called(0, 10, 12, b"dx", b'p', b"1"),
-        Called(0, 13, 15, b"ex", b'p', b"1"),
-        Called(0, 16, 18, b"fx", b'p', b"1"),
-        Called(0, 19, 21, b"gx", b'p', b"1"),
-        Called(0, 22, 24, b"hx", b'p', b"1"),
-        Called(0, 25, 27, b"ix", b'p', b"1"),
-        Called(0, 28, 30, b"jx", b'p', b"1"),
-        Called(0, 31, 33, b"ax", b'h', b"1"),
-        Called(0, 34, 36, b"bx", b'h', b"1"),
-        Called(0, 37, 39, b"cx", b'h', b"1"),
-        Called(0, 40, 42, b"dx", b'h', b"1"),
-        Called(0, 43, 45, b"ex", b'h', b"1"),
-        Called(0, 46, 48, b"fx", b'h', b"1"),
-        Called(0, 49, 51, b"gx", b'h', b"1"),
-        Called(0, 52, 54, b"hx", b'h', b"1"),
-        Called(0, 55, 57, b"ix", b'h', b"1"),
-        Called(0, 58, 60, b"jx", b'h', b"1"),
-        Called(0, 61, 63, b"ax", b'p', b"2"),
-        Called(0, 64, 66, b"bx", b'r', b""),
-        Called(0, 67, 69, b"ax", b'h', b"2"),
-        Called(0, 70, 72, b"bx", b'm', b""),
-        Called(0, 73, 75, b"cx", b'h', b"1"),
-        Called(0, 76, 78, b"jx", b'h', b"1"),
-    ],
-    certificate: &[
-        0, 1, 2, 3, 4, 5, 6, 7, 8, 9, 10, 11, 12, 13, 14, 15, 16, 17, 18, 19, 20, 21, 22, 23, 24,
-        25,
-    ],
-};
+static UNFINISHED: &[u8] = b"
+    world 1 16 1
+    put 0 ax 1; put 0 bx 1; put 0 cx 1; put 0 dx 1; put 0 ex 1; put 0 fx 1; put 0 gx 1; put 0 hx 1; put 0 ix 1
+    put 0 jx 1; flush 0; flush 0; move 0; move 0; move 0; move 0; move 0; move 0; move 0; move 0; move 0; get 0 ax
+    get 0 bx; get 0 cx; get 0 dx; get 0 ex; get 0 fx; get 0 gx; get 0 hx; get 0 ix; get 0 jx; put 0 ax 2
+    remove 0 bx; get 0 ax; get 0 bx; get 0 cx; get 0 jx; move 0
+    play bpebpebpebpebpebpebpebpebpebpeswjjjjjjjjybHebHebHebHebHebHebHebHebHebHebpebrebHebmebHebHey accepted
+    count 26; call 0 by 0 1 3 ax put 1; call 1 by 0 4 6 bx put 1; call 2 by 0 7 9 cx put 1
+    call 3 by 0 10 12 dx put 1; call 4 by 0 13 15 ex put 1; call 5 by 0 16 18 fx put 1; call 6 by 0 19 21 gx put 1
+    call 7 by 0 22 24 hx put 1; call 8 by 0 25 27 ix put 1; call 9 by 0 28 30 jx put 1
+    call 10 by 0 31 33 ax hit 1 0; call 11 by 0 34 36 bx hit 1 0; call 12 by 0 37 39 cx hit 1 0
+    call 13 by 0 40 42 dx hit 1 0; call 14 by 0 43 45 ex hit 1 0; call 15 by 0 46 48 fx hit 1 0
+    call 16 by 0 49 51 gx hit 1 0; call 17 by 0 52 54 hx hit 1 0; call 18 by 0 55 57 ix hit 1 0
+    call 19 by 0 58 60 jx hit 1 0; call 20 by 0 61 63 ax put 2; call 21 by 0 64 66 bx remove
+    call 22 by 0 67 69 ax hit 2 0; call 23 by 0 70 72 bx miss; call 24 by 0 73 75 cx hit 1 0
+    call 25 by 0 76 78 jx hit 1 0; order 0 1 2 3 4 5 6 7 8 9 10 11 12 13 14 15 16 17 18 19 20 21 22 23 24 25
+";
 
 #[test]
 fn a_lane_goes_on_beside_moves_that_are_never_finished(rt: HostRuntime) -> Result<(), Fail> {
-    assert!(rt; plays(rt.alloc(), &UNFINISHED)?);
-    Ok(())
+    play_text(&rt, rt.alloc(), UNFINISHED)
 }

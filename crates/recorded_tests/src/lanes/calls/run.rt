@@ -1,191 +1,273 @@
-//! Calls of a recorded lane, each with what it gives. A call that memory is refused records nothing, and is made once more.
+//! The calls of a recorded lane, by their words. A call that memory is refused records nothing, and is made once more.
 ghost use Rattle.std.specs.Prelude.{◌≡◌, ◌<◌, All, IfOk, IsTrue};
 
 use super::*;
 
-/// What a get is to find.
-#[derive(Clone, Copy)]
-pub enum Found {
-    Memory(&'static [u8]),
-    Log(&'static [u8]),
-    Set(&'static [u8]),
-    Absent,
-    Fault,
+// The pages of a set and of two segments.
+const PAGES: u32 = 3;
+
+/// A lane that steps open, and the call of the next one's device that is refused, from 1, or 0.
+#[derive(Drop)]
+struct Called {
+    refused: u32,
+    lane: Option<Box<Lane>>,
 }
 
-/// A call of a lane, and what it gives.
-#[derive(Clone, Copy)]
-pub enum Step {
-    /// A key, its value, the word, and what becomes of the pair that leaves memory.
-    Put(&'static [u8], &'static [u8], u32, Pushed),
-    /// A key, and a value that is too large with it.
-    TooLarge(&'static [u8], &'static [u8]),
-    /// A key, and what is found of it.
-    Get(&'static [u8], Found),
-    /// A key.
-    Remove(&'static [u8]),
-    /// A key. No call is recorded.
-    Forget(&'static [u8]),
-    Flush(Flushed),
-    Move(MovedWhole),
-}
+impl Scripted for Called {
+    ghost use Rattle.std.specs.Prelude.{⊤};
 
-/// What is reported of a lane after its calls.
-#[derive(Clone, Copy, PartialEq, Eq)]
-pub struct Told {
-    /// The number of the first call that did not give what is written beside it, or was not recorded as it must.
-    pub strayed: Option<usize>,
-    /// Whether the recorded calls have the acts that are written.
-    pub has_acts: bool,
-    pub last_point: u64,
-    pub is_empty: bool,
-}
+    ghost can_act = { ⊤ };
 
-/// The last stamp of this many recorded calls.
-pub fn stamps_of(calls: usize) -> u64 {
-    (calls as u64).wrapping_mul(2)
-}
-
-/// What is reported of a lane whose calls all gave what is written beside them, after this many recorded calls.
-pub fn as_written(calls: usize) -> Told {
-    Told {
-        strayed: None,
-        has_acts: true,
-        last_point: stamps_of(calls),
-        is_empty: calls == 0,
+    fn act(&mut self, alloc: Global, step: &mut Step<'_>) -> Result<(), Fail> {
+        let word = step.word();
+        if is(word, b"refuse") {
+            self.refused = step.small();
+            return Ok(());
+        }
+        if is(word, b"open") {
+            self.lane = Some(opened(alloc, self.refused, step)?);
+            self.refused = 0;
+            return Ok(());
+        }
+        if is(word, b"end") {
+            return end(self.lane.take(), step);
+        }
+        match &mut self.lane {
+            Some(lane) => call(alloc, &mut **lane, word, step),
+            None => Err("a lane".into()),
+        }
     }
 }
 
-/// Makes these calls of a lane, and tells of it.
-pub fn tell_of<D: PageDevice<PAGE>, const PAGE: usize>(
-    alloc: Global,
-    lane: &mut RecordedLane<D, PAGE>,
-    steps: &[Step],
-    letters: &[u8],
-) -> Result<Told, Fail> {
-    let strayed = run(alloc, lane, steps)?;
-    Ok(Told {
-        strayed,
-        has_acts: has_acts(lane, letters),
-        last_point: lane.last_point(),
-        is_empty: lane.is_empty(),
+/// Makes the calls of a text, of lanes that it opens.
+pub fn play(alloc: Global, text: &[u8]) -> Result<(), Fail> {
+    let mut called = Called {
+        refused: 0,
+        lane: None,
+    };
+    run_text(alloc, &mut called, text)
+}
+
+// The lane of a number and a configuration, opened once more if memory was refused.
+fn opened(alloc: Global, refused: u32, step: &mut Step<'_>) -> Result<Box<Lane>, Fail> {
+    let number = step.small();
+    let config = config_of(step);
+    if number >= config.lanes {
+        return Err("a lane that is not there".into());
+    }
+    let lane = match RecordedLane::open(alloc, &config, number, device(alloc, refused)?) {
+        Ok(lane) => lane,
+        Err(_) => RecordedLane::open(alloc, &config, number, device(alloc, refused)?)?,
+    };
+    Ok(Box::new(alloc, lane)?)
+}
+
+fn device(alloc: Global, refused: u32) -> Result<FuseDevice<MemoryDevice<256>>, AllocError> {
+    Ok(FuseDevice::one(MemoryDevice::new(alloc, PAGES)?, refused))
+}
+
+// Ends a lane. Tells how many calls are given back, the end of the last, and how many pages the device has.
+fn end(lane: Option<Box<Lane>>, step: &mut Step<'_>) -> Result<(), Fail> {
+    let Some(lane) = lane else {
+        return Err("a lane".into());
+    };
+    let parts = Box::into_inner(lane).into_parts();
+    tell_last(&parts.calls, step);
+    step.tell_number(u64::from(parts.device.pages()));
+    Ok(())
+}
+
+fn tell_last(calls: &History, step: &mut Step<'_>) {
+    let count = calls.len();
+    step.tell_number(count as u64);
+    step.tell_number(if count == 0 {
+        0
+    } else {
+        calls.at(count - 1).end
+    });
+}
+
+// Makes the call that a word names, and tells what it gives, and what is recorded of it.
+fn call(alloc: Global, lane: &mut Lane, word: &[u8], step: &mut Step<'_>) -> Result<(), Fail> {
+    let before = lane.len();
+    if is(word, b"put") || is(word, b"get") || is(word, b"remove") {
+        recorded(alloc, lane, word, step)?;
+    } else if is(word, b"forget") {
+        lane.forget(&step.key(alloc)?);
+    } else if is(word, b"flush") {
+        step.tell(name_of_flush(lane.flush_step()));
+    } else if is(word, b"move") {
+        step.tell(moved(lane)?);
+    } else {
+        look(lane, word, step);
+    }
+    tell_noted(lane, before, step);
+    Ok(())
+}
+
+// Tells the call that was recorded after so many, if there is one: its caller, start, point and key, and what it did.
+fn tell_noted(lane: &Lane, before: usize, step: &mut Step<'_>) {
+    let count = lane.len();
+    if count == before {
+        return;
+    }
+    if count < before || count - before > 1 {
+        step.refuse();
+        return;
+    }
+    let last = lane.at(before);
+    step.tell(b"as");
+    step.tell_number(u64::from(last.caller));
+    step.tell_number(last.start);
+    step.tell_number(last.point);
+    step.tell(last.key);
+    tell_act(last.act, step);
+}
+
+// Tells what a lane shows of itself.
+fn look(lane: &Lane, word: &[u8], step: &mut Step<'_>) {
+    if is(word, b"is") {
+        step.tell_number(u64::from(lane.lane()));
+        tell_config(lane, step);
+    } else if is(word, b"count") {
+        step.tell_number(lane.len() as u64);
+        step.tell_number(lane.last_point());
+        if lane.is_empty() {
+            step.tell(b"empty");
+        }
+    } else if is(word, b"acts") {
+        tell_acts(lane, step);
+    } else {
+        step.refuse();
+    }
+}
+
+fn tell_config(lane: &Lane, step: &mut Step<'_>) {
+    let config = lane.config();
+    step.tell_number(u64::from(config.lanes));
+    step.tell_number(u64::from(config.sets));
+    step.tell_number(u64::from(config.memory));
+    step.tell_number(u64::from(config.segments));
+    step.tell_number(u64::from(config.segment_pages));
+    step.tell_number(u64::from(config.entries));
+    step.tell_number(u64::from(config.threshold));
+    step.tell_number(u64::from(config.admit));
+}
+
+// Tells the letters of what the calls of a lane did, in order: put, remove, hit or miss.
+fn tell_acts(lane: &Lane, step: &mut Step<'_>) {
+    let mut letters = Spelled::new();
+    for number in 0..lane.len() {
+        if letters.try_push(letter_of(lane.at(number).act)).is_err() {
+            step.refuse();
+        }
+    }
+    step.tell(letters.as_slice());
+}
+
+fn letter_of(act: ActRef<'_>) -> u8 {
+    match act {
+        ActRef::Put(..) => b'p',
+        ActRef::Remove => b'r',
+        ActRef::Hit(..) => b'h',
+        ActRef::Miss => b'm',
+    }
+}
+
+// Makes a whole move, once more if memory was refused.
+fn moved(lane: &mut Lane) -> Result<&'static [u8], Fail> {
+    let moved = match lane.move_whole(&Rriparoo) {
+        Ok(moved) => moved,
+        Err(_) => lane.move_whole(&Rriparoo)?,
+    };
+    Ok(match moved {
+        MovedWhole::Written => b"written",
+        _ => b"another way",
     })
 }
 
-/// Makes each of these calls, up to the first that does not give what is written beside it, or is not recorded, last, or is
-/// recorded and no call of the history; its number. The caller is the step's number, and each call takes two stamps.
-fn run<D: PageDevice<PAGE>, const PAGE: usize>(
-    alloc: Global,
-    lane: &mut RecordedLane<D, PAGE>,
-    steps: &[Step],
-) -> Result<Option<usize>, Fail> {
-    for number in 0..steps.len() {
-        let caller = (number % 65536) as u16;
-        if !gives(alloc, lane, caller, &steps[number])? {
-            return Ok(Some(number));
-        }
+/// A call that is recorded: its word, its key, and the value and the word of a put.
+#[derive(Clone, Copy)]
+struct Asked<'a> {
+    word: &'a [u8],
+    name: &'a [u8],
+    bytes: &'a [u8],
+    low: u32,
+}
+
+// Makes a call that is recorded, once more if memory was refused.
+fn recorded(alloc: Global, lane: &mut Lane, word: &[u8], step: &mut Step<'_>) -> Result<(), Fail> {
+    let name = step.bytes();
+    let is_put = is(word, b"put");
+    let bytes = if is_put { step.bytes() } else { Spelled::new() };
+    let asked = Asked {
+        word,
+        name: name.as_slice(),
+        bytes: bytes.as_slice(),
+        low: if is_put { step.small() } else { 0 },
+    };
+    if !is_answered(alloc, lane, &asked, step)? && !is_answered(alloc, lane, &asked, step)? {
+        step.tell(b"out of memory");
     }
-    Ok(None)
+    Ok(())
 }
 
-// Whether a call gives what is written beside it, and is recorded as it must.
-fn gives<D: PageDevice<PAGE>, const PAGE: usize>(
+// Makes such a call once, and tells its answer unless memory was refused. Its caller is the number of the calls before it, and so
+// is the moment of a get.
+fn is_answered(
     alloc: Global,
-    lane: &mut RecordedLane<D, PAGE>,
-    caller: u16,
-    step: &Step,
+    lane: &mut Lane,
+    asked: &Asked<'_>,
+    step: &mut Step<'_>,
 ) -> Result<bool, Fail> {
-    match step {
-        Step::Put(name, bytes, word, pushed) => {
-            put_gives(alloc, lane, caller, name, bytes, *word, *pushed)
+    let caller = (lane.len() % 65536) as u16;
+    let point = next_point(lane)?;
+    let key = own_key(alloc, lane, asked.name)?;
+    if is(asked.word, b"get") {
+        let answer = lane.get(caller, point - 1, point, &key, u64::from(caller));
+        return Ok(is_got(answer, step));
+    }
+    if is(asked.word, b"remove") {
+        return Ok(lane.remove(caller, point - 1, point, &key).is_ok());
+    }
+    let value = value(alloc, asked.bytes)?;
+    let stored = lane.put(caller, point - 1, point, key, value, asked.low, NEVER);
+    Ok(is_stored(stored, step))
+}
+
+fn is_got(answer: Result<Answer, RecordFault>, step: &mut Step<'_>) -> bool {
+    match answer {
+        Ok(answer) => {
+            tell_answer(&answer, step);
+            true
         }
-        Step::TooLarge(name, bytes) => refuses(alloc, lane, caller, name, bytes),
-        Step::Get(name, found) => get_gives(alloc, lane, caller, name, found),
-        Step::Remove(name) => removes(alloc, lane, caller, name),
-        Step::Forget(name) => forgets(alloc, lane, name),
-        Step::Flush(flushed) => Ok(flushes(lane, *flushed)),
-        Step::Move(wanted) => moves(lane, *wanted),
+        Err(_) => false,
     }
 }
 
-fn put_gives<D: PageDevice<PAGE>, const PAGE: usize>(
-    alloc: Global,
-    lane: &mut RecordedLane<D, PAGE>,
-    caller: u16,
-    name: &[u8],
-    bytes: &[u8],
-    word: u32,
-    pushed: Pushed,
-) -> Result<bool, Fail> {
-    let before = lane.len();
-    let given = stored(put(alloc, lane, caller, name, bytes, word)?)?;
-    Ok(given == pushed && is_last(lane, before, caller, name, ActRef::Put(bytes, NEVER)))
+fn is_stored(stored: Result<Pushed, RecordPutFault>, step: &mut Step<'_>) -> bool {
+    match stored {
+        Ok(pushed) => {
+            step.tell(name_of_pushed(pushed));
+            true
+        }
+        Err(RecordPutFault::TooLarge) => {
+            step.tell(b"too large");
+            true
+        }
+        Err(_) => false,
+    }
 }
 
-fn refuses<D: PageDevice<PAGE>, const PAGE: usize>(
-    alloc: Global,
-    lane: &mut RecordedLane<D, PAGE>,
-    caller: u16,
-    name: &[u8],
-    bytes: &[u8],
-) -> Result<bool, Fail> {
-    let before = lane.len();
-    let answer = put(alloc, lane, caller, name, bytes, 0)?;
-    Ok(is_too_large(answer) && lane.len() == before)
-}
-
-fn get_gives<D: PageDevice<PAGE>, const PAGE: usize>(
-    alloc: Global,
-    lane: &mut RecordedLane<D, PAGE>,
-    caller: u16,
-    name: &[u8],
-    found: &Found,
-) -> Result<bool, Fail> {
-    let before = lane.len();
-    let answer = get(alloc, lane, caller, name)?;
-    Ok(
-        is_found(&answer, found)
-            && is_last(lane, before, caller, name, act_of(&answer, caller as u64)),
-    )
-}
-
-fn removes<D: PageDevice<PAGE>, const PAGE: usize>(
-    alloc: Global,
-    lane: &mut RecordedLane<D, PAGE>,
-    caller: u16,
-    name: &[u8],
-) -> Result<bool, Fail> {
-    let before = lane.len();
-    remove(alloc, lane, caller, name)?;
-    Ok(is_last(lane, before, caller, name, ActRef::Remove))
-}
-
-fn forgets<D: PageDevice<PAGE>, const PAGE: usize>(
-    alloc: Global,
-    lane: &mut RecordedLane<D, PAGE>,
-    name: &[u8],
-) -> Result<bool, Fail> {
-    let before = lane.len();
-    let key = key(alloc, name)?;
-    lane.forget(&key);
-    Ok(lane.len() == before)
-}
-
-fn flushes<D: PageDevice<PAGE>, const PAGE: usize>(
-    lane: &mut RecordedLane<D, PAGE>,
-    flushed: Flushed,
-) -> bool {
-    let before = lane.len();
-    lane.flush_step() == flushed && lane.len() == before
-}
-
-fn moves<D: PageDevice<PAGE>, const PAGE: usize>(
-    lane: &mut RecordedLane<D, PAGE>,
-    wanted: MovedWhole,
-) -> Result<bool, Fail> {
-    let before = lane.len();
-    let moved = moved(lane)?;
-    Ok(moved == wanted && lane.len() == before)
+// The point of the next call of a lane, which starts just before it.
+fn next_point(lane: &Lane) -> Result<u64, Fail>
+    ensures start { IfOk result (λ p. 0 < p) }
+    ensures rises { IfOk result (λ p. All (λ n. n.point < p) lane.now.calls) }
+{
+    match lane.last_point().checked_add(2) {
+        Some(point) => Ok(point),
+        None => Err("stamps".into()),
+    }
 }
 
 // Whether a key belongs to a lane.
@@ -199,11 +281,7 @@ fn is_own<D: PageDevice<PAGE>, const PAGE: usize>(lane: &RecordedLane<D, PAGE>, 
 ghost use Rattle.recorded_lane.specs.Lane.{IsOfLane};
 
 // A key, if it belongs to a lane.
-fn own_key<D: PageDevice<PAGE>, const PAGE: usize>(
-    alloc: Global,
-    lane: &RecordedLane<D, PAGE>,
-    name: &[u8],
-) -> Result<Key, Fail>
+fn own_key(alloc: Global, lane: &Lane, name: &[u8]) -> Result<Key, Fail>
     ensures { IfOk result (λ key. IsOfLane lane.now.store.layout lane.now.lane key) }
 {
     let key = key(alloc, name)?;
@@ -211,197 +289,5 @@ fn own_key<D: PageDevice<PAGE>, const PAGE: usize>(
         Ok(key)
     } else {
         Err("a key of another lane".into())
-    }
-}
-
-// The stamps of the next call of a lane.
-fn stamps<D: PageDevice<PAGE>, const PAGE: usize>(
-    lane: &RecordedLane<D, PAGE>,
-) -> Result<(u64, u64), Fail>
-    ensures start { IfOk result (λ s. s.0 < s.1) }
-    ensures rises { IfOk result (λ s. All (λ n. n.point < s.1) lane.now.calls) }
-{
-    match lane.last_point().checked_add(2) {
-        Some(point) => Ok((point - 1, point)),
-        None => Err("stamps".into()),
-    }
-}
-
-// Puts a pair, once more if memory was refused.
-fn put<D: PageDevice<PAGE>, const PAGE: usize>(
-    alloc: Global,
-    lane: &mut RecordedLane<D, PAGE>,
-    caller: u16,
-    name: &[u8],
-    bytes: &[u8],
-    word: u32,
-) -> Result<Result<Pushed, RecordPutFault>, Fail> {
-    match put_once(alloc, lane, caller, name, bytes, word)? {
-        Err(RecordPutFault::OutOfMemory) => {
-            let again = put_once(alloc, lane, caller, name, bytes, word)?;
-            Ok(again)
-        }
-        Ok(pushed) => Ok(Ok(pushed)),
-        Err(fault) => Ok(Err(fault)),
-    }
-}
-
-fn put_once<D: PageDevice<PAGE>, const PAGE: usize>(
-    alloc: Global,
-    lane: &mut RecordedLane<D, PAGE>,
-    caller: u16,
-    name: &[u8],
-    bytes: &[u8],
-    word: u32,
-) -> Result<Result<Pushed, RecordPutFault>, Fail> {
-    let (start, point) = stamps(lane)?;
-    let value = value(alloc, bytes)?;
-    let key = own_key(alloc, lane, name)?;
-    Ok(lane.put(caller, start, point, key, value, word, NEVER))
-}
-
-// Gets a key at the caller's number, once more if memory was refused.
-fn get<D: PageDevice<PAGE>, const PAGE: usize>(
-    alloc: Global,
-    lane: &mut RecordedLane<D, PAGE>,
-    caller: u16,
-    name: &[u8],
-) -> Result<Answer, Fail> {
-    match get_once(alloc, lane, caller, name)? {
-        Ok(answer) => Ok(answer),
-        Err(_) => Ok(get_once(alloc, lane, caller, name)??),
-    }
-}
-
-fn get_once<D: PageDevice<PAGE>, const PAGE: usize>(
-    alloc: Global,
-    lane: &mut RecordedLane<D, PAGE>,
-    caller: u16,
-    name: &[u8],
-) -> Result<Result<Answer, RecordFault>, Fail> {
-    let (start, point) = stamps(lane)?;
-    let key = own_key(alloc, lane, name)?;
-    Ok(lane.get(caller, start, point, &key, caller as u64))
-}
-
-// Removes a key, once more if memory was refused.
-fn remove<D: PageDevice<PAGE>, const PAGE: usize>(
-    alloc: Global,
-    lane: &mut RecordedLane<D, PAGE>,
-    caller: u16,
-    name: &[u8],
-) -> Result<(), Fail> {
-    match remove_once(alloc, lane, caller, name)? {
-        Ok(()) => Ok(()),
-        Err(_) => Ok(remove_once(alloc, lane, caller, name)??),
-    }
-}
-
-fn remove_once<D: PageDevice<PAGE>, const PAGE: usize>(
-    alloc: Global,
-    lane: &mut RecordedLane<D, PAGE>,
-    caller: u16,
-    name: &[u8],
-) -> Result<Result<(), RecordFault>, Fail> {
-    let (start, point) = stamps(lane)?;
-    let key = own_key(alloc, lane, name)?;
-    Ok(lane.remove(caller, start, point, &key))
-}
-
-fn moved<D: PageDevice<PAGE>, const PAGE: usize>(
-    lane: &mut RecordedLane<D, PAGE>,
-) -> Result<MovedWhole, Fail> {
-    match lane.move_whole(&Rriparoo) {
-        Ok(moved) => Ok(moved),
-        Err(_) => Ok(lane.move_whole(&Rriparoo)?),
-    }
-}
-
-fn stored(answer: Result<Pushed, RecordPutFault>) -> Result<Pushed, Fail> {
-    Ok(answer?)
-}
-
-fn is_too_large(answer: Result<Pushed, RecordPutFault>) -> bool {
-    match answer {
-        Err(RecordPutFault::TooLarge) => true,
-        _ => false,
-    }
-}
-
-fn is_found(answer: &Answer, wanted: &Found) -> bool {
-    match (answer, wanted) {
-        (Answer::Hit(value, Tier::Memory), Found::Memory(bytes)) => value.bytes() == *bytes,
-        (Answer::Hit(value, Tier::Log), Found::Log(bytes)) => value.bytes() == *bytes,
-        (Answer::Hit(value, Tier::Set), Found::Set(bytes)) => value.bytes() == *bytes,
-        (Answer::Miss(MissCause::Absent), Found::Absent) => true,
-        (Answer::Miss(MissCause::Fault), Found::Fault) => true,
-        _ => false,
-    }
-}
-
-// Whether one call was recorded after this many: by this caller, of this key, with this act, and its stamps are the
-// last two.
-fn is_last<D: PageDevice<PAGE>, const PAGE: usize>(
-    lane: &RecordedLane<D, PAGE>,
-    before: usize,
-    caller: u16,
-    name: &[u8],
-    act: ActRef<'_>,
-) -> bool {
-    if before >= lane.len() || lane.len() - before != 1 {
-        return false;
-    }
-    let last = lane.at(before);
-    last.caller == caller
-        && has_stamps(last, lane.last_point())
-        && last.key == name
-        && is_same_act(last.act, act)
-}
-
-fn has_stamps(noted: NotedRef<'_>, point: u64) -> bool {
-    noted.point == point && noted.start < point && point - noted.start == 1
-}
-
-// What is recorded of an answer to a get of this moment.
-fn act_of(answer: &Answer, moment: u64) -> ActRef<'_> {
-    match answer {
-        Answer::Hit(value, _) => ActRef::Hit(value.bytes(), moment),
-        Answer::Miss(_) => ActRef::Miss,
-    }
-}
-
-fn is_same_act(one: ActRef<'_>, other: ActRef<'_>) -> bool {
-    match (one, other) {
-        (ActRef::Put(value, expires), ActRef::Put(bytes, time)) => value == bytes
-            && expires == time,
-        (ActRef::Hit(value, moment), ActRef::Hit(bytes, time)) => value == bytes && moment == time,
-        (ActRef::Remove, ActRef::Remove) => true,
-        (ActRef::Miss, ActRef::Miss) => true,
-        _ => false,
-    }
-}
-
-// Whether the calls of a lane have these acts, in order: put, remove, hit or miss.
-fn has_acts<D: PageDevice<PAGE>, const PAGE: usize>(
-    lane: &RecordedLane<D, PAGE>,
-    letters: &[u8],
-) -> bool {
-    if lane.len() != letters.len() {
-        return false;
-    }
-    for number in 0..letters.len() {
-        if number >= lane.len() || letter_of(lane.at(number).act) != letters[number] {
-            return false;
-        }
-    }
-    true
-}
-
-fn letter_of(act: ActRef<'_>) -> u8 {
-    match act {
-        ActRef::Put(..) => b'p',
-        ActRef::Remove => b'r',
-        ActRef::Hit(..) => b'h',
-        ActRef::Miss => b'm',
     }
 }

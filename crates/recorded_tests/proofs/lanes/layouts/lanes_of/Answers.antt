@@ -8,15 +8,15 @@ use Rattle.certificate_checker.specs.Lanes.{calls_of, PointsRise}
 use Rattle.recorded_tests.proofs.Rising.{calls_more}
 use Rattle.recorded_tests.proofs.lanes.layouts.lanes_of.Goals as goal
 
-pub loop-puts-preserved : goal.loop-puts-preserved
-loop-puts-preserved c =
-    let lanes = c.loop-puts.lanes.items in
+pub loop-lane-preserved : goal.loop-lane-preserved
+loop-lane-preserved c =
+    let lanes = c.loop-lane.lanes.items in
     let lane = c.in_ok-lane_of.field-0 in
     let pushed = c.in_ok-push.ensures.items in
     let calls = ap (λ (ls : List (List Done)). length (flat_map calls_of ls)) pushed ∙ calls_more lanes lane in
     let count = c.in_ok-lane_of.ensures.count in
-    let sum = c.loop-puts.invariant.1 in
+    let sum = c.loop-lane.invariant.1 in
     let enough = c.if-puts-left.false in (
-      subst (λ (ls : List (List Done)). All PointsRise ls) (sym pushed) (All-push PointsRise lanes lane c.loop-puts.invariant.0 c.in_ok-lane_of.ensures.rise),
+      subst (λ (ls : List (List Done)). All PointsRise ls) (sym pushed) (All-push PointsRise lanes lane c.loop-lane.invariant.0 c.in_ok-lane_of.ensures.rise),
       omega (arith, calls, count, sum, enough),
     )
