@@ -4,3 +4,4 @@ mod for_c;
 mod lane;
 mod seated;
 mod server;
+mod words;

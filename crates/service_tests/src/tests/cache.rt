@@ -3,6 +3,7 @@ mod caller;
 mod calls;
 mod many;
 mod opening;
+mod scripted;
 mod seats;
 mod seeds;
 mod tending;
@@ -11,6 +12,7 @@ mod trials;
 
 ghost use Rattle.std.specs.Prelude.{◌≡◌, IfOk, length};
 
+use super::words::is;
 use deed_book::{BookName, KeyLanes, Seat, UnnamedBook};
 use key_hash::RandomSeed;
 use page_device::{MemoryDevice, PageDevice};
@@ -21,7 +23,7 @@ use service_lane::Filled;
 use std::alloc::Global;
 use std::sync::Wait;
 use std::test::Fail;
-use test_devices::{key, value};
+use test_devices::{Step, key, value};
 
 type Cache<D, L, J> = ServiceCache<D, Rriparoo, 256, L, J>;
 

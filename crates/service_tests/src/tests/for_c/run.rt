@@ -1,154 +1,207 @@
-//! Calls of a lane, each with what it gives.
+//! The calls of a lane, by their words.
+ghost use Rattle.std.specs.Prelude.{◌<◌, ◌≤◌};
+
+use super::scripted::name_of;
 use super::*;
-use c_lane::{Hit, Step as Upkept};
 
-/// A call of a lane, and what it gives.
-#[derive(Clone, Copy)]
-pub enum Step {
-    /// A key, its value, when that expires, and the status.
-    Put(&'static [u8], &'static [u8], u64, Status),
-    /// The same of a put that removes if it is refused.
-    Instead(&'static [u8], &'static [u8], Status),
-    /// A key, the moment, the value that is found, and its tier.
-    Hit(&'static [u8], u64, &'static [u8], u32),
-    /// A key, the moment, and the status of the miss, or of the refusal: nothing is written.
-    Miss(&'static [u8], u64, Status),
-    /// A key, and how long its value is, for a buffer that is one byte too short.
-    Short(&'static [u8], usize),
-    /// The lease of a key that misses, kept at this place.
-    Lease(usize, &'static [u8]),
-    /// The lease of a key that is there, kept at this place.
-    LeaseHit(usize, &'static [u8]),
-    /// A fill by the lease at this place: a key, its value, and the status.
-    Fill(usize, &'static [u8], &'static [u8], Status),
-    /// A key, and the status.
-    Remove(&'static [u8], Status),
-    /// What a step of upkeep tells.
-    Tend(u32, u32, u32),
-}
+// How many bytes the buffer of a get has, unless the step says fewer.
+const ROOM: usize = 16;
 
-/// Makes each of these calls, up to the first that does not give what is written beside it; its number.
-pub fn run(alloc: Global, lane: &mut CLane, steps: &[Step]) -> Option<usize> {
-    let mut leases = [0u64; 2];
-    for number in 0..steps.len() {
-        if !gives(alloc, lane, &mut leases, &steps[number]) {
-            return Some(number);
-        }
-    }
-    None
-}
-
-// Whether a call gives what is written beside it.
-fn gives(alloc: Global, lane: &mut CLane, leases: &mut [u64; 2], step: &Step) -> bool {
-    match step {
-        Step::Put(key, value, expires, status) => put(alloc, lane, key, value, *expires) == *status,
-        Step::Instead(key, value, status) => instead(alloc, lane, key, value) == *status,
-        Step::Hit(key, moment, value, tier) => hits(lane, key, *moment, value, *tier),
-        Step::Miss(key, moment, status) => misses(lane, key, *moment, *status),
-        Step::Short(key, length) => is_too_short(lane, key, *length),
-        Step::Lease(place, key) => match leased(lane, key) {
-            Some(writes) => {
-                leases[*place % 2] = writes;
-                true
-            }
-            None => false,
-        },
-        Step::LeaseHit(place, key) => lane.lease(key, &mut leases[*place % 2]) == Status::Done,
-        Step::Fill(place, key, value, status) => {
-            fill(alloc, lane, leases[*place % 2], key, value) == *status
-        }
-        Step::Remove(key, status) => lane.remove(key) == *status,
-        Step::Tend(did, asked_device, is_due) => tends(lane, *did, *asked_device, *is_due),
+/// Makes the call of a lane that a step spells, and tells what it gives.
+pub fn call(
+    alloc: Global,
+    lane: &mut CLane,
+    leases: &mut [u64; 2],
+    word: &[u8],
+    step: &mut Step<'_>,
+) {
+    if is(word, b"get") {
+        get(lane, ROOM, step);
+    } else if is(word, b"get-into") {
+        let room = step.small() as usize;
+        get(lane, room, step);
+    } else if is(word, b"tend") {
+        tend(lane, step);
+    } else if is(word, b"count") {
+        count(lane, step);
+    } else if is(word, b"get-or-lease") {
+        get_or_lease(lane, leases, step);
+    } else {
+        let status = status_of(alloc, lane, leases, word, step);
+        step.tell(name_of(status));
     }
 }
 
-// Puts a value, once more if memory was refused.
-fn put(alloc: Global, lane: &mut CLane, key: &[u8], value: &[u8], expires: u64) -> Status {
-    match lane.put(alloc, key, value, expires) {
-        Status::NoMemory => lane.put(alloc, key, value, expires),
+// The status of a call that gives no more.
+fn status_of(
+    alloc: Global,
+    lane: &mut CLane,
+    leases: &mut [u64; 2],
+    word: &[u8],
+    step: &mut Step<'_>,
+) -> Status {
+    if is(word, b"put") {
+        put(alloc, lane, step)
+    } else if is(word, b"put-or-remove") {
+        put_or_remove(alloc, lane, step)
+    } else if is(word, b"fill") {
+        fill(alloc, lane, leases, step)
+    } else if is(word, b"lease") {
+        let place = place_of(step);
+        lane.lease(step.bytes().as_slice(), &mut leases[place])
+    } else if is(word, b"remove") {
+        lane.remove(step.bytes().as_slice())
+    } else {
+        step.refuse();
+        Status::Done
+    }
+}
+
+// Puts a value that expires at a moment, if the step has one; once more if memory was refused.
+fn put(alloc: Global, lane: &mut CLane, step: &mut Step<'_>) -> Status {
+    let key = step.bytes();
+    let value = step.bytes();
+    let expires = step.number_if_any().unwrap_or(u64::MAX);
+    match lane.put(alloc, &key, &value, expires) {
+        Status::NoMemory => lane.put(alloc, &key, &value, expires),
         status => status,
     }
 }
 
-// The same, or removes its key.
-fn instead(alloc: Global, lane: &mut CLane, key: &[u8], value: &[u8]) -> Status {
-    match lane.put_or_remove(alloc, key, value, u64::MAX) {
-        Status::NoMemory => lane.put_or_remove(alloc, key, value, u64::MAX),
+// Puts a value that never expires, or removes its key.
+fn put_or_remove(alloc: Global, lane: &mut CLane, step: &mut Step<'_>) -> Status {
+    let key = step.bytes();
+    let value = step.bytes();
+    match lane.put_or_remove(alloc, &key, &value, u64::MAX) {
+        Status::NoMemory => lane.put_or_remove(alloc, &key, &value, u64::MAX),
         status => status,
     }
 }
 
-// Fills a key, once more if memory was refused.
-fn fill(alloc: Global, lane: &mut CLane, writes: u64, key: &[u8], value: &[u8]) -> Status {
-    match lane.fill(alloc, writes, key, value, u64::MAX) {
-        Status::NoMemory => lane.fill(alloc, writes, key, value, u64::MAX),
+// Takes the place of a lease.
+fn place_of(step: &mut Step<'_>) -> usize
+    ensures { result < 2 }
+{
+    step.small() as usize % 2
+}
+
+// Fills a key by a lease, once more if memory was refused.
+fn fill(alloc: Global, lane: &mut CLane, leases: &[u64; 2], step: &mut Step<'_>) -> Status {
+    let writes = leases[place_of(step)];
+    let key = step.bytes();
+    let value = step.bytes();
+    match lane.fill(alloc, writes, &key, &value, u64::MAX) {
+        Status::NoMemory => lane.fill(alloc, writes, &key, &value, u64::MAX),
         status => status,
     }
 }
 
-// Whether the value is found in the tier, live, and no byte after it is written.
-fn hits(lane: &mut CLane, key: &[u8], moment: u64, value: &[u8], tier: u32) -> bool {
-    let mut into = [0xeeu8; 16];
+// Looks a key up at a moment, into a buffer of so many bytes, and tells what was got.
+fn get(lane: &mut CLane, room: usize, step: &mut Step<'_>) {
+    let key = step.bytes();
+    let moment = step.number();
+    let mut into = [0xeeu8; ROOM];
     let mut hit = NO_HIT;
-    let status = lane.get(key, moment, &mut into, &mut hit);
-    let len = value.len().min(16);
-    let told = Hit {
-        length: len as u64,
-        expires: hit.expires,
-        tier,
-        reserved: 0,
-    };
-    status == Status::Done
-        && hit == told
-        && (moment < hit.expires || hit.expires == u64::MAX)
-        && &into[..len] == value
-        && is_blank(&into[len..])
+    let status = lane.get(&key, moment, &mut into[..room.min(ROOM)], &mut hit);
+    if !is_sound(status, hit, moment) {
+        step.refuse();
+    }
+    tell_got(status, hit, &into, step);
 }
 
-// Whether it is missed with this status, and nothing is written.
-fn misses(lane: &mut CLane, key: &[u8], moment: u64, wanted: Status) -> bool {
-    let mut into = [0xeeu8; 16];
-    let mut hit = NO_HIT;
-    let status = lane.get(key, moment, &mut into, &mut hit);
-    let none = Hit {
-        length: 0,
-        expires: 0,
-        tier: 0,
-        reserved: 0,
-    };
-    status == wanted && hit == none && is_blank(&into)
+// Whether a hit is told exactly if there is one, and is live at the moment.
+fn is_sound(status: Status, hit: Hit, moment: u64) -> bool {
+    match status {
+        Status::Done | Status::ShortBuffer => hit.reserved == 0
+            && hit.tier != 0
+            && (moment < hit.expires || hit.expires == u64::MAX),
+        _ => hit.length == 0 && hit.expires == 0 && hit.tier == 0 && hit.reserved == 0,
+    }
 }
 
-// Whether a buffer that is a byte shorter than the value stays as it was, and the hit is told.
-fn is_too_short(lane: &mut CLane, key: &[u8], length: usize) -> bool {
-    let mut into = [0xeeu8; 16];
-    let mut hit = NO_HIT;
-    let room = length.saturating_sub(1).min(16);
-    let status = lane.get(key, 0, &mut into[..room], &mut hit);
-    status == Status::ShortBuffer && hit.length == length as u64 && hit.tier != 0 && is_blank(&into)
+// How many bytes of the buffer are written.
+fn written(status: Status, hit: Hit) -> usize
+    ensures { result ≤ 16 }
+{
+    match status {
+        Status::Done => (hit.length as usize).min(ROOM),
+        _ => 0,
+    }
 }
 
-// The lease of a key that misses.
-fn leased(lane: &mut CLane, key: &[u8]) -> Option<u64> {
-    let mut into = [0xeeu8; 16];
+// Tells the tier of a hit and its value; of one that the buffer was too short for how long its value is; or why there is none. No byte
+// after the value is written.
+fn tell_got(status: Status, hit: Hit, into: &[u8; ROOM], step: &mut Step<'_>) {
+    let length = written(status, hit);
+    if !is_blank(&into[length..]) {
+        step.refuse();
+    }
+    if status == Status::Done {
+        step.tell(name_of_tier(hit.tier));
+        step.tell(&into[..length]);
+        return;
+    }
+    step.tell(name_of(status));
+    if status == Status::ShortBuffer {
+        step.tell_number(hit.length);
+    }
+}
+
+fn name_of_tier(tier: u32) -> &'static [u8] {
+    match tier {
+        1 => b"memory",
+        2 => b"log",
+        3 => b"set",
+        _ => b"no tier",
+    }
+}
+
+// Looks a key up that misses, keeps its lease, and tells the status. No byte is written.
+fn get_or_lease(lane: &mut CLane, leases: &mut [u64; 2], step: &mut Step<'_>) {
+    let place = place_of(step);
+    let key = step.bytes();
+    let mut into = [0xeeu8; ROOM];
     let mut hit = NO_HIT;
     let mut writes = u64::MAX;
-    let status = lane.get_or_lease(key, 0, &mut into, &mut hit, &mut writes);
-    if status == Status::Absent && writes != u64::MAX && is_blank(&into) {
-        Some(writes)
-    } else {
-        None
+    let status = lane.get_or_lease(&key, 0, &mut into, &mut hit, &mut writes);
+    if writes == u64::MAX || !is_blank(&into) {
+        step.refuse();
+    }
+    leases[place] = writes;
+    step.tell(name_of(status));
+}
+
+// Tells what a step of upkeep tells; and whether something is due is then told alike.
+fn tend(lane: &mut CLane, step: &mut Step<'_>) {
+    let upkeep = lane.upkeep_step();
+    step.tell_number(u64::from(upkeep.did));
+    step.tell_number(u64::from(upkeep.asked_device));
+    step.tell_number(u64::from(upkeep.is_due));
+    if lane.is_due() != (upkeep.is_due == 1) {
+        step.refuse();
     }
 }
 
-// Whether a step of upkeep tells this, and whether something is due is then told alike.
-fn tends(lane: &mut CLane, did: u32, asked_device: u32, is_due: u32) -> bool {
-    let told = Upkept {
-        did,
-        asked_device,
-        is_due,
-    };
-    lane.upkeep_step() == told && lane.is_due() == (is_due == 1)
+// The counters of a lane, each at the place of its field in `kangaroo_counters`.
+static COUNTERS: &[u8] = b"memory_hits log_hits set_hits absent expired unreadable damaged \
+    puts removes leases_given fills_stored fills_stale declined logged log_full index_full \
+    log_pages_written set_pages_written pages_read log_pages_lost sets_forgotten readmitted dropped segments_freed \
+    upkeep_steps put_steps upkeep_no_memory bytes_put memory_objects_now log_objects_now segments_now \
+    copy_hits brought_back pushed_copies";
+
+// Tells the number of the counter that a step names.
+fn count(lane: &CLane, step: &mut Step<'_>) {
+    match place_among(COUNTERS, step.word()) {
+        Some(place) => tell_number_at(place, &lane.counters().numbers, step),
+        None => step.refuse(),
+    }
+}
+
+fn tell_number_at(place: usize, numbers: &[u64], step: &mut Step<'_>) {
+    match numbers.get(place) {
+        Some(number) => step.tell_number(*number),
+        None => step.refuse(),
+    }
 }
 
 // A hit that no call tells.

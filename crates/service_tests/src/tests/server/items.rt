@@ -1,372 +1,108 @@
 //! What each command of memcached's protocol does to a lane.
 mod rows;
-mod run;
 
-use self::run::{Call, Kept, Lane, Step, run};
-use item_lane::{CacheItem, CellBuffer, Change, CommandReply, Head, StoreMode};
-use key_hash::RandomSeed;
-use page_device::MemoryDevice;
-use record_pages::{Config, PutFault};
-use service_lane::ServiceLane;
-use std::alloc::Global;
+use super::scripted::play;
+use item_lane::{CacheItem, CellBuffer, Head};
 use std::test::Fail;
 
-// One lane of one set, with three objects in memory and two segments of one page.
-const SMALL: Config = Config {
-    lanes: 1,
-    sets: 1,
-    memory: 3,
-    segments: 2,
-    segment_pages: 1,
-    entries: 8,
-    threshold: 1,
-    admit: 65536,
-};
-
-// The number of the first call that does not give what is written beside it, in a new lane.
-fn stray(alloc: Global, calls: &[Call]) -> Result<Option<usize>, Fail> {
-    let device = MemoryDevice::new(alloc, 3)?;
-    let mut lane: Lane = ServiceLane::open(alloc, &SMALL, 4, device, RandomSeed::fixed())?;
-    Ok(run(alloc, &mut lane, calls))
-}
-
-static STORES: [Call; 18] = [
-    (b"ax", 1, 0, Step::Get(None)),
-    (
-        b"ax",
-        1,
-        0,
-        Step::Store(
-            StoreMode::Replace,
-            None,
-            Kept(0, 1, None, b"one"),
-            Ok(CommandReply::NotStored),
-        ),
-    ),
-    (
-        b"ax",
-        1,
-        0,
-        Step::Store(
-            StoreMode::Replace,
-            Some(1),
-            Kept(0, 2, None, b"one"),
-            Ok(CommandReply::NotFound),
-        ),
-    ),
-    (
-        b"ax",
-        1,
-        0,
-        Step::Store(
-            StoreMode::Append,
-            None,
-            Kept(0, 3, None, b"one"),
-            Ok(CommandReply::NotStored),
-        ),
-    ),
-    (
-        b"ax",
-        1,
-        0,
-        Step::Store(
-            StoreMode::Prepend,
-            None,
-            Kept(0, 4, None, b"one"),
-            Ok(CommandReply::NotStored),
-        ),
-    ),
-    (b"ax", 1, 0, Step::Get(None)),
-    (
-        b"ax",
-        1,
-        0,
-        Step::Store(
-            StoreMode::Add,
-            None,
-            Kept(7, 5, Some(90), b"one"),
-            Ok(CommandReply::Stored),
-        ),
-    ),
-    (
-        b"bx",
-        1,
-        0,
-        Step::Set(Kept(0, 6, None, b"other"), Ok(CommandReply::Stored)),
-    ),
-    (
-        b"ax",
-        2,
-        0,
-        Step::Store(
-            StoreMode::Add,
-            None,
-            Kept(0, 7, None, b"two"),
-            Ok(CommandReply::NotStored),
-        ),
-    ),
-    (b"ax", 2, 0, Step::Get(Some(Kept(7, 5, Some(90), b"one")))),
-    (
-        b"ax",
-        2,
-        0,
-        Step::Store(
-            StoreMode::Append,
-            None,
-            Kept(0, 8, None, b", two"),
-            Ok(CommandReply::Stored),
-        ),
-    ),
-    (
-        b"ax",
-        2,
-        0,
-        Step::Store(
-            StoreMode::Prepend,
-            Some(8),
-            Kept(0, 9, None, b"no, "),
-            Ok(CommandReply::Stored),
-        ),
-    ),
-    (
-        b"ax",
-        3,
-        0,
-        Step::Get(Some(Kept(7, 9, Some(90), b"no, one, two"))),
-    ),
-    (
-        b"ax",
-        3,
-        0,
-        Step::Store(
-            StoreMode::Replace,
-            Some(8),
-            Kept(0, 10, None, b"x"),
-            Ok(CommandReply::Exists),
-        ),
-    ),
-    (
-        b"ax",
-        3,
-        0,
-        Step::Get(Some(Kept(7, 9, Some(90), b"no, one, two"))),
-    ),
-    (
-        b"ax",
-        3,
-        0,
-        Step::Store(
-            StoreMode::Replace,
-            Some(9),
-            Kept(0, 11, None, b"x"),
-            Ok(CommandReply::Stored),
-        ),
-    ),
-    (b"ax", 95, 0, Step::Get(Some(Kept(0, 11, None, b"x")))),
-    (b"bx", 95, 0, Step::Get(Some(Kept(0, 6, None, b"other")))),
-];
+static STORES: &[u8] = b"
+    open 3; at 1 0
+    get ax none
+    replace ax any 0 1 never one not stored
+    replace ax 1 0 2 never one not found
+    append ax any 0 3 never one not stored
+    prepend ax any 0 4 never one not stored
+    get ax none
+    add ax any 7 5 90 one stored
+    set bx 0 6 never other stored
+    at 2 0
+    add ax any 0 7 never two not stored
+    get ax 7 5 90 one
+    append ax any 0 8 never ,~two stored
+    prepend ax 8 0 9 never no,~ stored
+    at 3 0
+    get ax 7 9 90 no,~one,~two
+    replace ax 8 0 10 never x exists
+    get ax 7 9 90 no,~one,~two
+    replace ax 9 0 11 never x stored
+    at 95 0
+    get ax 0 11 never x
+    get bx 0 6 never other
+";
 
 #[test]
 fn stores_depend_on_the_live_item(rt: HostRuntime) -> Result<(), Fail> {
-    assert!(rt; stray(rt.alloc(), &STORES)? == None);
-    Ok(())
+    play(rt.alloc(), STORES)
 }
 
-static ENDS: [Call; 18] = [
-    (
-        b"ax",
-        10,
-        0,
-        Step::Set(Kept(1, 5, Some(20), b"one"), Ok(CommandReply::Stored)),
-    ),
-    (b"ax", 19, 0, Step::Get(Some(Kept(1, 5, Some(20), b"one")))),
-    (b"ax", 20, 0, Step::Get(None)),
-    (b"ax", 20, 0, Step::Touch(None, CommandReply::NotFound)),
-    (
-        b"ax",
-        20,
-        0,
-        Step::Store(
-            StoreMode::Add,
-            None,
-            Kept(1, 6, Some(40), b"two"),
-            Ok(CommandReply::Stored),
-        ),
-    ),
-    (b"ax", 21, 0, Step::Touch(Some(60), CommandReply::Touched)),
-    (
-        b"ax",
-        59,
-        0,
-        Step::GetAndTouch(
-            None,
-            Some(Kept(1, 6, Some(60), b"two")),
-            CommandReply::Touched,
-        ),
-    ),
-    (b"ax", 60, 6, Step::Get(Some(Kept(1, 6, None, b"two")))),
-    (b"ax", 60, 7, Step::Get(None)),
-    (
-        b"ax",
-        60,
-        7,
-        Step::GetAndTouch(Some(70), None, CommandReply::NotFound),
-    ),
-    (
-        b"ax",
-        60,
-        7,
-        Step::Store(
-            StoreMode::Replace,
-            None,
-            Kept(0, 8, None, b"x"),
-            Ok(CommandReply::NotStored),
-        ),
-    ),
-    (
-        b"ax",
-        60,
-        7,
-        Step::Store(
-            StoreMode::Add,
-            None,
-            Kept(0, 9, None, b"three"),
-            Ok(CommandReply::Stored),
-        ),
-    ),
-    (
-        b"bx",
-        60,
-        7,
-        Step::Set(Kept(0, 10, None, b"other"), Ok(CommandReply::Stored)),
-    ),
-    (b"ax", 60, 7, Step::Delete(Some(8), CommandReply::Exists)),
-    (b"ax", 60, 7, Step::Delete(Some(9), CommandReply::Deleted)),
-    (b"ax", 60, 7, Step::Delete(None, CommandReply::NotFound)),
-    (b"ax", 60, 7, Step::Get(None)),
-    (b"bx", 60, 7, Step::Get(Some(Kept(0, 10, None, b"other")))),
-];
+static ENDS: &[u8] = b"
+    open 3; at 10 0
+    set ax 1 5 20 one stored
+    at 19 0
+    get ax 1 5 20 one
+    at 20 0
+    get ax none
+    touch ax never not found
+    add ax any 1 6 40 two stored
+    at 21 0
+    touch ax 60 touched
+    at 59 0
+    get-and-touch ax never 1 6 60 two touched
+    at 60 6
+    get ax 1 6 never two
+    at 60 7
+    get ax none
+    get-and-touch ax 70 none not found
+    replace ax any 0 8 never x not stored
+    add ax any 0 9 never three stored
+    set bx 0 10 never other stored
+    delete ax 8 exists
+    delete ax 9 deleted
+    delete ax any not found
+    get ax none
+    get bx 0 10 never other
+";
 
 #[test]
 fn items_end_by_expiry_by_a_flush_and_by_a_delete(rt: HostRuntime) -> Result<(), Fail> {
-    assert!(rt; stray(rt.alloc(), &ENDS)? == None);
-    Ok(())
+    play(rt.alloc(), ENDS)
 }
 
-static NUMBERS: [Call; 13] = [
-    (
-        b"ax",
-        1,
-        0,
-        Step::Change(Change::Increment(1), 2, CommandReply::NotFound),
-    ),
-    (
-        b"ax",
-        1,
-        0,
-        Step::Set(Kept(9, 3, Some(90), b"99"), Ok(CommandReply::Stored)),
-    ),
-    (
-        b"ax",
-        1,
-        0,
-        Step::Change(Change::Increment(5), 4, CommandReply::Number(104)),
-    ),
-    (b"ax", 1, 0, Step::Get(Some(Kept(9, 4, Some(90), b"104")))),
-    (
-        b"ax",
-        1,
-        0,
-        Step::Change(Change::Decrement(5), 5, CommandReply::Number(99)),
-    ),
-    (b"ax", 1, 0, Step::Get(Some(Kept(9, 5, Some(90), b"99 ")))),
-    (
-        b"ax",
-        1,
-        0,
-        Step::Change(Change::Decrement(100), 6, CommandReply::Number(0)),
-    ),
-    (b"ax", 1, 0, Step::Get(Some(Kept(9, 6, Some(90), b"0  ")))),
-    (
-        b"bx",
-        1,
-        0,
-        Step::Set(
-            Kept(0, 7, None, b"18446744073709551615"),
-            Ok(CommandReply::Stored),
-        ),
-    ),
-    (
-        b"bx",
-        1,
-        0,
-        Step::Change(Change::Increment(2), 8, CommandReply::Number(1)),
-    ),
-    (
-        b"bx",
-        1,
-        0,
-        Step::Set(
-            Kept(0, 9, None, b"18446744073709551616"),
-            Ok(CommandReply::Stored),
-        ),
-    ),
-    (
-        b"bx",
-        1,
-        0,
-        Step::Change(Change::Increment(1), 10, CommandReply::NotNumber),
-    ),
-    (
-        b"bx",
-        1,
-        0,
-        Step::Get(Some(Kept(0, 9, None, b"18446744073709551616"))),
-    ),
-];
+static NUMBERS: &[u8] = b"
+    open 3; at 1 0
+    up ax 1 2 not found
+    set ax 9 3 90 99 stored
+    up ax 5 4 number 104
+    get ax 9 4 90 104
+    down ax 5 5 number 99
+    get ax 9 5 90 99~
+    down ax 100 6 number 0
+    get ax 9 6 90 0~~
+    set bx 0 7 never 18446744073709551615 stored
+    up bx 2 8 number 1
+    set bx 0 9 never 18446744073709551616 stored
+    up bx 1 10 not a number
+    get bx 0 9 never 18446744073709551616
+";
 
 #[test]
 fn numbers_go_up_and_down(rt: HostRuntime) -> Result<(), Fail> {
-    assert!(rt; stray(rt.alloc(), &NUMBERS)? == None);
-    Ok(())
+    play(rt.alloc(), NUMBERS)
 }
 
-static LARGEST: [u8; 2039] = [b'x'; 2039];
-
-static TOO_LARGE: [u8; 2040] = [b'x'; 2040];
+static LARGE: &[u8] = b"
+    open 3; at 1 0
+    set ax 0 1 never old stored
+    set ax 0 2 never x*2040 too large
+    get ax none
+    set ax 0 3 never x*2039 stored
+    get ax 0 3 never x*2039
+    set ax 0 4 9 x*2039 too large
+";
 
 #[test]
 fn a_set_that_is_refused_leaves_no_older_item(rt: HostRuntime) -> Result<(), Fail> {
-    let calls: [Call; 6] = [
-        (
-            b"ax",
-            1,
-            0,
-            Step::Set(Kept(0, 1, None, b"old"), Ok(CommandReply::Stored)),
-        ),
-        (
-            b"ax",
-            1,
-            0,
-            Step::Set(Kept(0, 2, None, &TOO_LARGE), Err(PutFault::TooLarge)),
-        ),
-        (b"ax", 1, 0, Step::Get(None)),
-        (
-            b"ax",
-            1,
-            0,
-            Step::Set(Kept(0, 3, None, &LARGEST), Ok(CommandReply::Stored)),
-        ),
-        (b"ax", 1, 0, Step::Get(Some(Kept(0, 3, None, &LARGEST)))),
-        (
-            b"ax",
-            1,
-            0,
-            Step::Set(Kept(0, 4, Some(9), &LARGEST), Err(PutFault::TooLarge)),
-        ),
-    ];
-    assert!(rt; stray(rt.alloc(), &calls)? == None);
-    Ok(())
+    play(rt.alloc(), LARGE)
 }
 
 static MARKED: Head = Head {

@@ -1,395 +1,97 @@
 //! What a meta get tells of an item, and which client wins it. The replies are those of memcached 1.6.18.
-use crate::tests::server::meta_run::{
-    Ask, Call, JUST_WON, Kept, NO_MARKS, Step, W, XW, XZ, Z, stray,
-};
-use item_lane::CommandReply::{Deleted, Exists, Invalidated, NotFound, Stored};
-use item_lane::{ExpiryChange, Invalidation, MetaMode};
+use super::scripted::play;
 use std::test::Fail;
 
-static VIVIFIED: [Call; 14] = [
-    (b"ax", 0, Step::Miss(Ask::Plain, NotFound)),
-    (b"ax", 0, Step::Miss(Ask::Vivify(1030, 1), JUST_WON)),
-    (b"bx", 0, Step::Miss(Ask::Vivify(1030, 2), JUST_WON)),
-    (
-        b"ax",
-        0,
-        Step::Hit(Ask::Vivify(1031, 3), Kept(0, 1, Some(1030), b""), Z),
-    ),
-    (
-        b"ax",
-        0,
-        Step::Hit(Ask::Plain, Kept(0, 1, Some(1030), b""), Z),
-    ),
-    (
-        b"ax",
-        0,
-        Step::Hit(
-            Ask::RecacheAndTouch(1060, Some(1090)),
-            Kept(0, 1, Some(1030), b""),
-            Z,
-        ),
-    ),
-    (
-        b"ax",
-        0,
-        Step::Hit(Ask::Plain, Kept(0, 1, Some(1090), b""), Z),
-    ),
-    (
-        b"ax",
-        0,
-        Step::Set(
-            MetaMode::Set,
-            Some(1),
-            false,
-            Kept(0, 4, None, b"new"),
-            Stored,
-        ),
-    ),
-    (
-        b"ax",
-        0,
-        Step::Hit(Ask::Plain, Kept(0, 4, None, b"new"), NO_MARKS),
-    ),
-    (
-        b"ax",
-        0,
-        Step::Hit(Ask::Vivify(1030, 5), Kept(0, 4, None, b"new"), NO_MARKS),
-    ),
-    (
-        b"bx",
-        0,
-        Step::Hit(Ask::Plain, Kept(0, 2, Some(1030), b""), Z),
-    ),
-    (b"bx", 3, Step::Miss(Ask::Plain, NotFound)),
-    (b"bx", 3, Step::Miss(Ask::Vivify(1050, 6), JUST_WON)),
-    (
-        b"bx",
-        3,
-        Step::Hit(Ask::Plain, Kept(0, 6, Some(1050), b""), Z),
-    ),
-];
+static VIVIFIED: &[u8] = b"
+    open 3; at 1000 0
+    mg ax none not found
+    mg-N ax 1030 1 none found W
+    mg-N bx 1030 2 none found W
+    mg-N ax 1031 3 0 1 1030 - won found Z
+    mg ax 0 1 1030 - won found Z
+    mg-RT ax 1060 1090 0 1 1030 - won found Z
+    mg ax 0 1 1090 - won found Z
+    ms ax set 1 0 4 never new stored
+    mg ax 0 4 never new found
+    mg-N ax 1030 5 0 4 never new found
+    mg bx 0 2 1030 - won found Z
+    at 1000 3
+    mg bx none not found
+    mg-N bx 1050 6 none found W
+    mg bx 0 6 1050 - won found Z
+";
 
 #[test]
 fn the_first_to_miss_wins_until_a_store(rt: HostRuntime) -> Result<(), Fail> {
-    assert!(rt; stray(rt.alloc(), &VIVIFIED)? == None);
-    Ok(())
+    play(rt.alloc(), VIVIFIED)
 }
 
-static TAKEN_AWAY: [Call; 8] = [
-    (b"ax", 0, Step::Miss(Ask::Vivify(1030, 1), JUST_WON)),
-    (b"ax", 0, Step::Delete(None, None, Deleted)),
-    (
-        b"ax",
-        0,
-        Step::Set(
-            MetaMode::Set,
-            Some(1),
-            false,
-            Kept(0, 2, None, b"new"),
-            NotFound,
-        ),
-    ),
-    (b"ax", 0, Step::Miss(Ask::Vivify(1030, 3), JUST_WON)),
-    (
-        b"ax",
-        0,
-        Step::Delete(
-            None,
-            Some(Invalidation {
-                cas: 4,
-                touch: ExpiryChange::Stays,
-            }),
-            Invalidated,
-        ),
-    ),
-    (
-        b"ax",
-        0,
-        Step::Set(
-            MetaMode::Set,
-            Some(3),
-            false,
-            Kept(0, 5, None, b"new"),
-            Exists,
-        ),
-    ),
-    (
-        b"ax",
-        0,
-        Step::Hit(Ask::Plain, Kept(0, 4, Some(1030), b""), XW),
-    ),
-    (
-        b"ax",
-        0,
-        Step::Hit(Ask::Plain, Kept(0, 4, Some(1030), b""), XZ),
-    ),
-];
+static TAKEN_AWAY: &[u8] = b"
+    open 3; at 1000 0
+    mg-N ax 1030 1 none found W
+    md ax any deleted
+    ms ax set 1 0 2 never new not found
+    mg-N ax 1030 3 none found W
+    md-I ax any 4 stays invalidated
+    ms ax set 3 0 5 never new exists
+    mg ax 0 4 1030 - stale found X W
+    mg ax 0 4 1030 - stale won found X Z
+";
 
 #[test]
 fn a_store_of_a_won_item_that_was_taken_away_is_refused(rt: HostRuntime) -> Result<(), Fail> {
-    assert!(rt; stray(rt.alloc(), &TAKEN_AWAY)? == None);
-    Ok(())
+    play(rt.alloc(), TAKEN_AWAY)
 }
 
-static DUE: [Call; 19] = [
-    (
-        b"ax",
-        0,
-        Step::Set(
-            MetaMode::Set,
-            None,
-            false,
-            Kept(5, 1, Some(1030), b"x"),
-            Stored,
-        ),
-    ),
-    (
-        b"ax",
-        0,
-        Step::Hit(Ask::Recache(1020), Kept(5, 1, Some(1030), b"x"), NO_MARKS),
-    ),
-    (
-        b"ax",
-        0,
-        Step::Hit(Ask::Recache(1030), Kept(5, 1, Some(1030), b"x"), NO_MARKS),
-    ),
-    (
-        b"ax",
-        0,
-        Step::Hit(Ask::Recache(1031), Kept(5, 1, Some(1030), b"x"), W),
-    ),
-    (
-        b"ax",
-        0,
-        Step::Hit(Ask::Recache(1031), Kept(5, 1, Some(1030), b"x"), Z),
-    ),
-    (
-        b"ax",
-        0,
-        Step::Hit(Ask::Plain, Kept(5, 1, Some(1030), b"x"), Z),
-    ),
-    (
-        b"ax",
-        0,
-        Step::Hit(
-            Ask::TouchAndRecache(Some(1060), 1031),
-            Kept(5, 1, Some(1030), b"x"),
-            Z,
-        ),
-    ),
-    (
-        b"ax",
-        0,
-        Step::Set(
-            MetaMode::Set,
-            None,
-            false,
-            Kept(0, 2, Some(1030), b"y"),
-            Stored,
-        ),
-    ),
-    (
-        b"ax",
-        0,
-        Step::Hit(
-            Ask::RecacheAndTouch(1031, Some(1060)),
-            Kept(0, 2, Some(1030), b"y"),
-            W,
-        ),
-    ),
-    (
-        b"ax",
-        0,
-        Step::Hit(Ask::Plain, Kept(0, 2, Some(1060), b"y"), Z),
-    ),
-    (
-        b"ax",
-        0,
-        Step::Set(
-            MetaMode::Set,
-            None,
-            false,
-            Kept(0, 3, Some(1030), b"z"),
-            Stored,
-        ),
-    ),
-    (
-        b"ax",
-        0,
-        Step::Hit(
-            Ask::TouchAndRecache(Some(1060), 1031),
-            Kept(0, 3, Some(1030), b"z"),
-            NO_MARKS,
-        ),
-    ),
-    (
-        b"ax",
-        0,
-        Step::Hit(Ask::Recache(1061), Kept(0, 3, Some(1060), b"z"), W),
-    ),
-    (
-        b"ax",
-        0,
-        Step::Hit(Ask::Recache(1061), Kept(0, 3, Some(1060), b"z"), Z),
-    ),
-    (
-        b"ax",
-        0,
-        Step::Set(MetaMode::Set, None, false, Kept(0, 4, None, b"n"), Stored),
-    ),
-    (
-        b"ax",
-        0,
-        Step::Hit(Ask::Recache(4000000000), Kept(0, 4, None, b"n"), NO_MARKS),
-    ),
-    (
-        b"ax",
-        0,
-        Step::Hit(Ask::Touch(Some(1005)), Kept(0, 4, None, b"n"), NO_MARKS),
-    ),
-    (
-        b"ax",
-        0,
-        Step::Hit(
-            Ask::TouchAndRecache(None, 4000000000),
-            Kept(0, 4, Some(1005), b"n"),
-            NO_MARKS,
-        ),
-    ),
-    (
-        b"ax",
-        0,
-        Step::Hit(Ask::Plain, Kept(0, 4, None, b"n"), NO_MARKS),
-    ),
-];
+static DUE: &[u8] = b"
+    open 3; at 1000 0
+    ms ax set any 5 1 1030 x stored
+    mg-R ax 1020 5 1 1030 x found
+    mg-R ax 1030 5 1 1030 x found
+    mg-R ax 1031 5 1 1030 x found W
+    mg-R ax 1031 5 1 1030 x won found Z
+    mg ax 5 1 1030 x won found Z
+    mg-TR ax 1060 1031 5 1 1030 x won found Z
+    ms ax set any 0 2 1030 y stored
+    mg-RT ax 1031 1060 0 2 1030 y found W
+    mg ax 0 2 1060 y won found Z
+    ms ax set any 0 3 1030 z stored
+    mg-TR ax 1060 1031 0 3 1030 z found
+    mg-R ax 1061 0 3 1060 z found W
+    mg-R ax 1061 0 3 1060 z won found Z
+    ms ax set any 0 4 never n stored
+    mg-R ax 4000000000 0 4 never n found
+    mg-T ax 1005 0 4 never n found
+    mg-TR ax never 4000000000 0 4 1005 n found
+    mg ax 0 4 never n found
+";
 
 #[test]
 fn the_first_to_ask_for_an_item_that_ends_soon_wins(rt: HostRuntime) -> Result<(), Fail> {
-    assert!(rt; stray(rt.alloc(), &DUE)? == None);
-    Ok(())
+    play(rt.alloc(), DUE)
 }
 
-static STALE: [Call; 16] = [
-    (
-        b"ax",
-        0,
-        Step::Set(
-            MetaMode::Set,
-            None,
-            false,
-            Kept(7, 1, Some(1100), b"ok"),
-            Stored,
-        ),
-    ),
-    (
-        b"ax",
-        0,
-        Step::Delete(
-            Some(9),
-            Some(Invalidation {
-                cas: 2,
-                touch: ExpiryChange::Becomes(Some(1030)),
-            }),
-            Exists,
-        ),
-    ),
-    (
-        b"ax",
-        0,
-        Step::Hit(Ask::Plain, Kept(7, 1, Some(1100), b"ok"), NO_MARKS),
-    ),
-    (
-        b"ax",
-        0,
-        Step::Delete(
-            Some(1),
-            Some(Invalidation {
-                cas: 3,
-                touch: ExpiryChange::Becomes(Some(1030)),
-            }),
-            Invalidated,
-        ),
-    ),
-    (
-        b"ax",
-        0,
-        Step::Hit(Ask::Plain, Kept(7, 3, Some(1030), b"ok"), XW),
-    ),
-    (
-        b"ax",
-        0,
-        Step::Hit(Ask::Plain, Kept(7, 3, Some(1030), b"ok"), XZ),
-    ),
-    (
-        b"ax",
-        0,
-        Step::Hit(Ask::Touch(Some(1090)), Kept(7, 3, Some(1030), b"ok"), XZ),
-    ),
-    (
-        b"ax",
-        0,
-        Step::Hit(Ask::Plain, Kept(7, 3, Some(1090), b"ok"), XZ),
-    ),
-    (
-        b"ax",
-        0,
-        Step::Delete(
-            None,
-            Some(Invalidation {
-                cas: 4,
-                touch: ExpiryChange::Stays,
-            }),
-            Invalidated,
-        ),
-    ),
-    (
-        b"ax",
-        0,
-        Step::Hit(Ask::Touch(None), Kept(7, 4, Some(1090), b"ok"), XW),
-    ),
-    (b"ax", 0, Step::Hit(Ask::Plain, Kept(7, 4, None, b"ok"), XZ)),
-    (
-        b"ax",
-        0,
-        Step::Set(MetaMode::Set, None, false, Kept(0, 5, None, b"x"), Stored),
-    ),
-    (
-        b"ax",
-        0,
-        Step::Hit(Ask::Plain, Kept(0, 5, None, b"x"), NO_MARKS),
-    ),
-    (
-        b"ax",
-        0,
-        Step::Delete(
-            None,
-            Some(Invalidation {
-                cas: 6,
-                touch: ExpiryChange::Stays,
-            }),
-            Invalidated,
-        ),
-    ),
-    (
-        b"ax",
-        0,
-        Step::Set(
-            MetaMode::Append,
-            None,
-            false,
-            Kept(9, 7, Some(1001), b"y"),
-            Stored,
-        ),
-    ),
-    (
-        b"ax",
-        0,
-        Step::Hit(Ask::Plain, Kept(0, 7, None, b"xy"), NO_MARKS),
-    ),
-];
+static STALE: &[u8] = b"
+    open 3; at 1000 0
+    ms ax set any 7 1 1100 ok stored
+    md-I ax 9 2 to 1030 exists
+    mg ax 7 1 1100 ok found
+    md-I ax 1 3 to 1030 invalidated
+    mg ax 7 3 1030 ok stale found X W
+    mg ax 7 3 1030 ok stale won found X Z
+    mg-T ax 1090 7 3 1030 ok stale won found X Z
+    mg ax 7 3 1090 ok stale won found X Z
+    md-I ax any 4 stays invalidated
+    mg-T ax never 7 4 1090 ok stale found X W
+    mg ax 7 4 never ok stale won found X Z
+    ms ax set any 0 5 never x stored
+    mg ax 0 5 never x found
+    md-I ax any 6 stays invalidated
+    ms ax append any 9 7 1001 y stored
+    mg ax 0 7 never xy found
+";
 
 #[test]
 fn a_stale_item_is_told_stale_and_one_client_wins(rt: HostRuntime) -> Result<(), Fail> {
-    assert!(rt; stray(rt.alloc(), &STALE)? == None);
-    Ok(())
+    play(rt.alloc(), STALE)
 }

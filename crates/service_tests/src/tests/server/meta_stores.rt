@@ -1,648 +1,106 @@
 //! What meta sets, deletes and arithmetic do to an item. The replies are those of memcached 1.6.18,
 //! but for `ma` whose number gets longer: memcached loses the marks there, and what `T` gives.
-use crate::tests::server::meta_run::{Ask, Call, Kept, NO_MARKS, Step, XW, XZ, stray};
-use item_lane::CommandReply::{
-    Deleted, Exists, Invalidated, NotFound, NotNumber, NotStored, Number, Stored,
-};
-use item_lane::{Change, ExpiryChange, InitialNumber, Invalidation, MetaDelta, MetaMode};
+use super::scripted::play;
 use std::test::Fail;
 
-static OLDER: [Call; 17] = [
-    (
-        b"ax",
-        0,
-        Step::Set(
-            MetaMode::Set,
-            None,
-            false,
-            Kept(1, 1, Some(1100), b"a"),
-            Stored,
-        ),
-    ),
-    (
-        b"ax",
-        0,
-        Step::Delete(
-            None,
-            Some(Invalidation {
-                cas: 2,
-                touch: ExpiryChange::Stays,
-            }),
-            Invalidated,
-        ),
-    ),
-    (
-        b"ax",
-        0,
-        Step::Hit(Ask::Plain, Kept(1, 2, Some(1100), b"a"), XW),
-    ),
-    (
-        b"ax",
-        0,
-        Step::Set(
-            MetaMode::Set,
-            Some(1),
-            false,
-            Kept(0, 3, None, b"b"),
-            Exists,
-        ),
-    ),
-    (
-        b"ax",
-        0,
-        Step::Set(
-            MetaMode::Set,
-            Some(1),
-            true,
-            Kept(3, 4, Some(1050), b"bb"),
-            Stored,
-        ),
-    ),
-    (
-        b"ax",
-        0,
-        Step::Hit(Ask::Plain, Kept(3, 4, Some(1100), b"bb"), XZ),
-    ),
-    (
-        b"ax",
-        0,
-        Step::Set(
-            MetaMode::Set,
-            Some(4),
-            true,
-            Kept(3, 5, Some(1050), b"cc"),
-            Stored,
-        ),
-    ),
-    (
-        b"ax",
-        0,
-        Step::Hit(Ask::Plain, Kept(3, 5, Some(1050), b"cc"), NO_MARKS),
-    ),
-    (
-        b"ax",
-        0,
-        Step::Set(
-            MetaMode::Set,
-            Some(999),
-            true,
-            Kept(0, 6, None, b"dd"),
-            Exists,
-        ),
-    ),
-    (
-        b"ax",
-        0,
-        Step::Set(
-            MetaMode::Set,
-            Some(0),
-            true,
-            Kept(0, 7, None, b"dd"),
-            Exists,
-        ),
-    ),
-    (
-        b"ax",
-        0,
-        Step::Set(
-            MetaMode::Set,
-            Some(0),
-            false,
-            Kept(0, 8, None, b"dd"),
-            Exists,
-        ),
-    ),
-    (
-        b"ax",
-        0,
-        Step::Set(
-            MetaMode::Prepend,
-            Some(1),
-            true,
-            Kept(0, 9, None, b"dd"),
-            Exists,
-        ),
-    ),
-    (
-        b"ax",
-        0,
-        Step::Hit(Ask::Plain, Kept(3, 5, Some(1050), b"cc"), NO_MARKS),
-    ),
-    (
-        b"ax",
-        0,
-        Step::Set(
-            MetaMode::Replace,
-            Some(1),
-            true,
-            Kept(9, 10, None, b"w"),
-            Stored,
-        ),
-    ),
-    (
-        b"ax",
-        0,
-        Step::Hit(Ask::Plain, Kept(9, 10, Some(1050), b"w"), XW),
-    ),
-    (
-        b"ax",
-        0,
-        Step::Set(MetaMode::Set, None, true, Kept(0, 11, None, b"ff"), Stored),
-    ),
-    (
-        b"ax",
-        0,
-        Step::Hit(Ask::Plain, Kept(0, 11, None, b"ff"), NO_MARKS),
-    ),
-];
+static OLDER: &[u8] = b"
+    open 3; at 1000 0
+    ms ax set any 1 1 1100 a stored
+    md-I ax any 2 stays invalidated
+    mg ax 1 2 1100 a stale found X W
+    ms ax set 1 0 3 never b exists
+    ms-I ax set 1 3 4 1050 bb stored
+    mg ax 3 4 1100 bb stale won found X Z
+    ms-I ax set 4 3 5 1050 cc stored
+    mg ax 3 5 1050 cc found
+    ms-I ax set 999 0 6 never dd exists
+    ms-I ax set 0 0 7 never dd exists
+    ms ax set 0 0 8 never dd exists
+    ms-I ax prepend 1 0 9 never dd exists
+    mg ax 3 5 1050 cc found
+    ms-I ax replace 1 9 10 never w stored
+    mg ax 9 10 1050 w stale found X W
+    ms-I ax set any 0 11 never ff stored
+    mg ax 0 11 never ff found
+";
 
 #[test]
 fn a_store_with_an_older_number_leaves_a_stale_item(rt: HostRuntime) -> Result<(), Fail> {
-    assert!(rt; stray(rt.alloc(), &OLDER)? == None);
-    Ok(())
+    play(rt.alloc(), OLDER)
 }
 
-static MODES: [Call; 15] = [
-    (
-        b"ax",
-        0,
-        Step::Set(
-            MetaMode::Set,
-            Some(5),
-            true,
-            Kept(0, 1, None, b"xx"),
-            NotFound,
-        ),
-    ),
-    (
-        b"ax",
-        0,
-        Step::Set(
-            MetaMode::Set,
-            Some(5),
-            false,
-            Kept(0, 2, None, b"xx"),
-            NotFound,
-        ),
-    ),
-    (
-        b"ax",
-        0,
-        Step::Set(
-            MetaMode::Replace,
-            Some(5),
-            false,
-            Kept(0, 3, None, b"xx"),
-            NotFound,
-        ),
-    ),
-    (
-        b"ax",
-        0,
-        Step::Set(
-            MetaMode::Replace,
-            None,
-            false,
-            Kept(0, 4, None, b"xx"),
-            NotStored,
-        ),
-    ),
-    (
-        b"ax",
-        0,
-        Step::Set(
-            MetaMode::Append,
-            None,
-            false,
-            Kept(0, 5, None, b"xx"),
-            NotStored,
-        ),
-    ),
-    (
-        b"ax",
-        0,
-        Step::Set(
-            MetaMode::Prepend,
-            Some(1),
-            false,
-            Kept(0, 6, None, b"xx"),
-            NotStored,
-        ),
-    ),
-    (
-        b"ax",
-        0,
-        Step::Set(
-            MetaMode::Add,
-            Some(1),
-            false,
-            Kept(2, 7, Some(1200), b"x"),
-            Stored,
-        ),
-    ),
-    (
-        b"ax",
-        0,
-        Step::Set(
-            MetaMode::Add,
-            None,
-            false,
-            Kept(0, 8, None, b"xx"),
-            NotStored,
-        ),
-    ),
-    (
-        b"ax",
-        0,
-        Step::Set(
-            MetaMode::Append,
-            Some(0),
-            false,
-            Kept(0, 9, None, b"y"),
-            Stored,
-        ),
-    ),
-    (
-        b"ax",
-        0,
-        Step::Set(
-            MetaMode::Prepend,
-            Some(7),
-            false,
-            Kept(0, 10, None, b"w"),
-            Exists,
-        ),
-    ),
-    (
-        b"ax",
-        0,
-        Step::Set(
-            MetaMode::Prepend,
-            Some(9),
-            false,
-            Kept(0, 11, None, b"w"),
-            Stored,
-        ),
-    ),
-    (
-        b"ax",
-        0,
-        Step::Hit(Ask::Plain, Kept(2, 11, Some(1200), b"wxy"), NO_MARKS),
-    ),
-    (
-        b"ax",
-        0,
-        Step::Set(
-            MetaMode::Replace,
-            Some(11),
-            false,
-            Kept(0, 12, None, b"r"),
-            Stored,
-        ),
-    ),
-    (
-        b"ax",
-        0,
-        Step::Set(
-            MetaMode::Replace,
-            None,
-            false,
-            Kept(0, 13, None, b"s"),
-            Stored,
-        ),
-    ),
-    (
-        b"ax",
-        0,
-        Step::Hit(Ask::Plain, Kept(0, 13, None, b"s"), NO_MARKS),
-    ),
-];
+static MODES: &[u8] = b"
+    open 3; at 1000 0
+    ms-I ax set 5 0 1 never xx not found
+    ms ax set 5 0 2 never xx not found
+    ms ax replace 5 0 3 never xx not found
+    ms ax replace any 0 4 never xx not stored
+    ms ax append any 0 5 never xx not stored
+    ms ax prepend 1 0 6 never xx not stored
+    ms ax add 1 2 7 1200 x stored
+    ms ax add any 0 8 never xx not stored
+    ms ax append 0 0 9 never y stored
+    ms ax prepend 7 0 10 never w exists
+    ms ax prepend 9 0 11 never w stored
+    mg ax 2 11 1200 wxy found
+    ms ax replace 11 0 12 never r stored
+    ms ax replace any 0 13 never s stored
+    mg ax 0 13 never s found
+";
 
 #[test]
 fn a_store_depends_on_its_mode_and_its_number(rt: HostRuntime) -> Result<(), Fail> {
-    assert!(rt; stray(rt.alloc(), &MODES)? == None);
-    Ok(())
+    play(rt.alloc(), MODES)
 }
 
-static DELETES: [Call; 9] = [
-    (b"ax", 0, Step::Delete(None, None, NotFound)),
-    (
-        b"ax",
-        0,
-        Step::Delete(
-            None,
-            Some(Invalidation {
-                cas: 1,
-                touch: ExpiryChange::Stays,
-            }),
-            NotFound,
-        ),
-    ),
-    (b"ax", 0, Step::Miss(Ask::Plain, NotFound)),
-    (
-        b"ax",
-        0,
-        Step::Set(MetaMode::Set, None, false, Kept(0, 2, None, b"a"), Stored),
-    ),
-    (b"ax", 0, Step::Delete(Some(99), None, Exists)),
-    (b"ax", 0, Step::Delete(Some(0), None, Exists)),
-    (
-        b"ax",
-        0,
-        Step::Hit(Ask::Plain, Kept(0, 2, None, b"a"), NO_MARKS),
-    ),
-    (b"ax", 0, Step::Delete(Some(2), None, Deleted)),
-    (b"ax", 0, Step::Miss(Ask::Plain, NotFound)),
-];
+static DELETES: &[u8] = b"
+    open 3; at 1000 0
+    md ax any not found
+    md-I ax any 1 stays not found
+    mg ax none not found
+    ms ax set any 0 2 never a stored
+    md ax 99 exists
+    md ax 0 exists
+    mg ax 0 2 never a found
+    md ax 2 deleted
+    mg ax none not found
+";
 
 #[test]
 fn a_delete_may_depend_on_a_number(rt: HostRuntime) -> Result<(), Fail> {
-    assert!(rt; stray(rt.alloc(), &DELETES)? == None);
-    Ok(())
+    play(rt.alloc(), DELETES)
 }
 
-static COUNTS: [Call; 25] = [
-    (
-        b"ax",
-        0,
-        Step::Change(
-            MetaDelta {
-                change: Change::Increment(1),
-                cas: 1,
-                compare: None,
-                touch: ExpiryChange::Stays,
-                initial: None,
-            },
-            NotFound,
-        ),
-    ),
-    (
-        b"ax",
-        0,
-        Step::Change(
-            MetaDelta {
-                change: Change::Increment(5),
-                cas: 2,
-                compare: Some(77),
-                touch: ExpiryChange::Becomes(Some(1010)),
-                initial: Some(InitialNumber {
-                    number: 13,
-                    expires: Some(1060),
-                }),
-            },
-            Number(13),
-        ),
-    ),
-    (
-        b"ax",
-        0,
-        Step::Hit(Ask::Plain, Kept(0, 2, Some(1060), b"13"), NO_MARKS),
-    ),
-    (
-        b"ax",
-        0,
-        Step::Change(
-            MetaDelta {
-                change: Change::Increment(1),
-                cas: 3,
-                compare: None,
-                touch: ExpiryChange::Stays,
-                initial: Some(InitialNumber {
-                    number: 40,
-                    expires: Some(1070),
-                }),
-            },
-            Number(14),
-        ),
-    ),
-    (
-        b"ax",
-        0,
-        Step::Hit(Ask::Plain, Kept(0, 3, Some(1060), b"14"), NO_MARKS),
-    ),
-    (
-        b"ax",
-        0,
-        Step::Change(
-            MetaDelta {
-                change: Change::Decrement(100),
-                cas: 4,
-                compare: None,
-                touch: ExpiryChange::Becomes(Some(1030)),
-                initial: None,
-            },
-            Number(0),
-        ),
-    ),
-    (
-        b"ax",
-        0,
-        Step::Hit(Ask::Plain, Kept(0, 4, Some(1030), b"0 "), NO_MARKS),
-    ),
-    (
-        b"ax",
-        0,
-        Step::Change(
-            MetaDelta {
-                change: Change::Increment(100),
-                cas: 5,
-                compare: None,
-                touch: ExpiryChange::Stays,
-                initial: None,
-            },
-            Number(100),
-        ),
-    ),
-    (
-        b"ax",
-        0,
-        Step::Change(
-            MetaDelta {
-                change: Change::Increment(1),
-                cas: 6,
-                compare: Some(4),
-                touch: ExpiryChange::Becomes(Some(1002)),
-                initial: None,
-            },
-            Exists,
-        ),
-    ),
-    (
-        b"ax",
-        0,
-        Step::Hit(Ask::Plain, Kept(0, 5, Some(1030), b"100"), NO_MARKS),
-    ),
-    (
-        b"ax",
-        0,
-        Step::Change(
-            MetaDelta {
-                change: Change::Increment(1),
-                cas: 7,
-                compare: Some(0),
-                touch: ExpiryChange::Stays,
-                initial: None,
-            },
-            Number(101),
-        ),
-    ),
-    (
-        b"ax",
-        0,
-        Step::Change(
-            MetaDelta {
-                change: Change::Increment(1),
-                cas: 8,
-                compare: Some(7),
-                touch: ExpiryChange::Becomes(None),
-                initial: None,
-            },
-            Number(102),
-        ),
-    ),
-    (
-        b"ax",
-        0,
-        Step::Hit(Ask::Plain, Kept(0, 8, None, b"102"), NO_MARKS),
-    ),
-    (
-        b"ax",
-        0,
-        Step::Set(
-            MetaMode::Set,
-            None,
-            false,
-            Kept(6, 9, Some(1100), b"9"),
-            Stored,
-        ),
-    ),
-    (
-        b"ax",
-        0,
-        Step::Delete(
-            None,
-            Some(Invalidation {
-                cas: 10,
-                touch: ExpiryChange::Stays,
-            }),
-            Invalidated,
-        ),
-    ),
-    (
-        b"ax",
-        0,
-        Step::Change(
-            MetaDelta {
-                change: Change::Decrement(1),
-                cas: 11,
-                compare: None,
-                touch: ExpiryChange::Stays,
-                initial: None,
-            },
-            Number(8),
-        ),
-    ),
-    (
-        b"ax",
-        0,
-        Step::Hit(Ask::Plain, Kept(6, 11, Some(1100), b"8"), XW),
-    ),
-    (
-        b"ax",
-        0,
-        Step::Change(
-            MetaDelta {
-                change: Change::Increment(2),
-                cas: 12,
-                compare: None,
-                touch: ExpiryChange::Becomes(Some(1050)),
-                initial: None,
-            },
-            Number(10),
-        ),
-    ),
-    (
-        b"ax",
-        0,
-        Step::Hit(Ask::Plain, Kept(6, 12, Some(1050), b"10"), XZ),
-    ),
-    (
-        b"ax",
-        0,
-        Step::Set(
-            MetaMode::Set,
-            None,
-            false,
-            Kept(0, 16, None, b"abc"),
-            Stored,
-        ),
-    ),
-    (
-        b"ax",
-        0,
-        Step::Change(
-            MetaDelta {
-                change: Change::Increment(1),
-                cas: 13,
-                compare: None,
-                touch: ExpiryChange::Becomes(Some(1002)),
-                initial: Some(InitialNumber {
-                    number: 1,
-                    expires: None,
-                }),
-            },
-            NotNumber,
-        ),
-    ),
-    (
-        b"ax",
-        0,
-        Step::Hit(Ask::Plain, Kept(0, 16, None, b"abc"), NO_MARKS),
-    ),
-    (
-        b"bx",
-        0,
-        Step::Change(
-            MetaDelta {
-                change: Change::Decrement(1),
-                cas: 14,
-                compare: None,
-                touch: ExpiryChange::Stays,
-                initial: Some(InitialNumber {
-                    number: 18446744073709551615,
-                    expires: None,
-                }),
-            },
-            Number(18446744073709551615),
-        ),
-    ),
-    (
-        b"bx",
-        0,
-        Step::Change(
-            MetaDelta {
-                change: Change::Increment(1),
-                cas: 15,
-                compare: None,
-                touch: ExpiryChange::Stays,
-                initial: None,
-            },
-            Number(0),
-        ),
-    ),
-    (
-        b"bx",
-        0,
-        Step::Hit(
-            Ask::Plain,
-            Kept(0, 15, None, b"0                   "),
-            NO_MARKS,
-        ),
-    ),
-];
+static COUNTS: &[u8] = b"
+    open 3; at 1000 0
+    ma-up ax 1 1 any stays none not found
+    ma-up ax 5 2 77 to 1010 13 1060 number 13
+    mg ax 0 2 1060 13 found
+    ma-up ax 1 3 any stays 40 1070 number 14
+    mg ax 0 3 1060 14 found
+    ma-down ax 100 4 any to 1030 none number 0
+    mg ax 0 4 1030 0~ found
+    ma-up ax 100 5 any stays none number 100
+    ma-up ax 1 6 4 to 1002 none exists
+    mg ax 0 5 1030 100 found
+    ma-up ax 1 7 0 stays none number 101
+    ma-up ax 1 8 7 to never none number 102
+    mg ax 0 8 never 102 found
+    ms ax set any 6 9 1100 9 stored
+    md-I ax any 10 stays invalidated
+    ma-down ax 1 11 any stays none number 8
+    mg ax 6 11 1100 8 stale found X W
+    ma-up ax 2 12 any to 1050 none number 10
+    mg ax 6 12 1050 10 stale won found X Z
+    ms ax set any 0 16 never abc stored
+    ma-up ax 1 13 any to 1002 1 never not a number
+    mg ax 0 16 never abc found
+    ma-down bx 1 14 any stays 18446744073709551615 never number 18446744073709551615
+    ma-up bx 1 15 any stays none number 0
+    mg bx 0 15 never 0~~~~~~~~~~~~~~~~~~~ found
+";
 
 #[test]
 fn a_number_is_made_and_changed(rt: HostRuntime) -> Result<(), Fail> {
-    assert!(rt; stray(rt.alloc(), &COUNTS)? == None);
-    Ok(())
+    play(rt.alloc(), COUNTS)
 }

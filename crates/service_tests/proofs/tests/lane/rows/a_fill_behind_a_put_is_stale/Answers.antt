@@ -15,3 +15,15 @@ returns g c =
     let ended : HoldsLease put.slots a.again writes → ⊥ = λ holds.
     lease_ended a.lane.now.slots put.slots a.key writes c.layout-layout.ensures.slots leased (c.in_ok-_pushed.ensures.stored.slots ∙ stays) (subst (λ (k : List ℕ). HoldsLease put.slots k writes) c.requires holds) in
     rw (c.fill.ensures.stale.1 ended) refl
+
+pub layout-layout-requires : goal.layout-layout-requires
+layout-layout-requires g c = assumption
+
+pub lease-lease-requires : goal.lease-lease-requires
+lease-lease-requires g c = assumption
+
+pub put-requires : goal.put-requires
+put-requires g c = assumption
+
+pub fill-requires : goal.fill-requires
+fill-requires g c = assumption

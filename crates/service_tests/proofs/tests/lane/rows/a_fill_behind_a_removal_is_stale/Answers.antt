@@ -14,3 +14,15 @@ returns-in-Ok g c =
     let ended : HoldsLease removed.slots a.key writes → ⊥ = λ holds.
     lease_ended a.lane.now.slots removed.slots a.name.now writes c.layout-layout.ensures.slots c.lease-lease.ensures.lease (c.in-Ok.ensures.removed.slots ∙ stays) (subst (λ (k : List ℕ). HoldsLease removed.slots k writes) (sym c.requires) holds) in
     rw (c.fill.ensures.stale.1 ended) refl
+
+pub layout-layout-requires : goal.layout-layout-requires
+layout-layout-requires g c = assumption
+
+pub lease-lease-requires : goal.lease-lease-requires
+lease-lease-requires g c = assumption
+
+pub remove-requires : goal.remove-requires
+remove-requires g c = assumption
+
+pub fill-requires : goal.fill-requires
+fill-requires g c = assumption

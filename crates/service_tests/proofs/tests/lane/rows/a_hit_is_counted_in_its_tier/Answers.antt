@@ -26,3 +26,6 @@ pub returns-in-Ok-clause-set_alone : goal.returns-in-Ok-clause-set_alone
 returns-in-Ok-clause-set_alone g c = λ told is.
     counted_hit c.args.lane.now c.get.new.self c.get.new.found c.in-Ok.seen Set told c.in-Ok.ensures.gets.copied counter.LogHits (omega arith) (ok_same c.in-Ok.seen _ is) c.in-Ok.ensures.gets.counts
     ∙ more_other 1 counter.SetHits counter.LogHits c.args.lane.now.counts (λ same. omega (arith, same))
+
+pub get-requires : goal.get-requires
+get-requires g c = assumption

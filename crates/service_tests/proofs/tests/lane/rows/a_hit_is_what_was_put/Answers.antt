@@ -21,3 +21,9 @@ returns-in-Ok-clause-flash g c = λ all tier told is.
     let found = c.get.new.found in
     let live = in_any g.D.PageDevice.honest put.store.device put.deeds a.name.now found a.moment c.in-Ok.seen tier told all (ok_same c.in-Ok.seen _ is) c.in-Ok.ensures.gets.live in
     put_is_live c.latest_is_current.ensures was put.deeds a.key a.value found a.expires a.moment c.in_ok-_pushed.ensures.stored.deeds (subst (λ (k : List ℕ). IsLive put.deeds k found a.moment) c.requires live)
+
+pub put-requires : goal.put-requires
+put-requires g c = assumption
+
+pub get-requires : goal.get-requires
+get-requires g c = assumption

@@ -31,3 +31,12 @@ returns-clause-flash g c = λ all tier told is.
     let got = subst (λ r. IfOk r (λ seen. Gets g.row.PAGE d.honest d.failures d.held a.name.now a.moment (answer_of seen found) tended c.get.new.self)) is c.get.ensures.gets in
     let live = in_any d.honest tended.store.device tended.deeds a.name.now found a.moment (Hit tier told) tier told all refl got.live in
     removed_is_not_live c.latest_is_current.ensures a.lane.now.deeds tended.deeds a.name.now found a.moment (stays ∙ c.in_ok-remove.ensures.removed.deeds) live
+
+pub remove-requires : goal.remove-requires
+remove-requires g c = assumption
+
+pub upkeep_step-step-requires : goal.upkeep_step-step-requires
+upkeep_step-step-requires g c = assumption
+
+pub get-requires : goal.get-requires
+get-requires g c = assumption

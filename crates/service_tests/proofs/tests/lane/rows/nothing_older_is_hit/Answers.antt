@@ -20,3 +20,9 @@ returns-in-Ok-clause-flash g c = λ all tier told is.
     let found = c.get.new.found in
     let live = in_any g.D.PageDevice.honest removed.store.device removed.deeds a.name.now found a.moment c.in-Ok.seen tier told all (some_same is) c.in-Ok.ensures.gets.live in
     removed_is_not_live c.latest_is_current.ensures a.lane.now.deeds removed.deeds a.key found a.moment c.in-Err.ensures.removed.deeds (subst (λ (k : List ℕ). IsLive removed.deeds k found a.moment) c.requires live)
+
+pub put_or_remove-requires : goal.put_or_remove-requires
+put_or_remove-requires g c = assumption
+
+pub get-requires : goal.get-requires
+get-requires g c = assumption
