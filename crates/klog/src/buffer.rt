@@ -8,7 +8,6 @@ ghost use Rattle.klog.specs.Buffer.{Buffer, empty_buffer, can_add, pages_with, p
 
 use record_pages::{LogPageWriter, RecordRef};
 use std::alloc::{AllocError, Global};
-use std::fmt;
 use std::marker::Model;
 
 /// The pages of a segment in the making. All memory is taken when it is made.
@@ -24,15 +23,6 @@ impl<const PAGE: usize> Model for SegmentBuffer<PAGE> {
     ghost view = { λ b. record { room = length b.pages.items; pages = take b.used b.pages.items } };
 
     ghost invariant = { λ b. (b.used ≤ length b.pages.items) × (length b.pages.items ≤ 64) };
-}
-
-impl<const PAGE: usize> fmt::Debug for SegmentBuffer<PAGE> {
-    fn fmt<W: fmt::Write>(&self, f: &mut fmt::Formatter<W>) -> fmt::Result {
-        f.debug_struct("SegmentBuffer")
-            .field("room", &self.pages.len())
-            .field("used", &self.used)
-            .finish()
-    }
 }
 
 /// Where a record lies in a segment.

@@ -111,7 +111,17 @@ impl LogIndex {
     pub fn find(&self, set: u32, tag: u16, skip: usize) -> Option<Entry>
         ensures { result ≡ slice_get (of_tag set tag self.now.entries) skip }
     {
-        self.entries_of(set).filter(|e| e.tag == tag).nth(skip)
+        let mut ahead = skip;
+        let mut left = self.entries_of(set);
+        while let Some(entry) = left.next() {
+            if entry.tag == tag {
+                if ahead == 0 {
+                    return Some(entry);
+                }
+                ahead -= 1;
+            }
+        }
+        None
     }
 
     /// Of the entries of a set, the one this many places after the newest.
@@ -153,11 +163,16 @@ impl LogIndex {
     pub fn oldest_but(&self, segment: u16, sets: &[u32]) -> Option<Entry>
         ensures { result ≡ oldest_but segment sets.now self.now.entries }
     {
-        self.pool
-            .from_oldest()
-            .map(|row| entry_of(&row.item))
-            .take_while(|e| e.place.segment == segment)
-            .find(|e| !sets.contains(&e.set))
+        let mut left = self.pool.from_oldest();
+        while let Some(row) = left.next() {
+            if row.item.segment != segment {
+                return None;
+            }
+            if !sets.contains(&row.item.set) {
+                return Some(entry_of(&row.item));
+            }
+        }
+        None
     }
 
     /// Of the entries of the segment with this name that are of none of these sets, the one of least page, then slot.

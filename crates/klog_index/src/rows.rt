@@ -22,7 +22,13 @@ pub(crate) fn row_in(pool: &EntryPool, set: u32, place: Place) -> Option<Row>
     ensures apart { IsDistinct (numbers pool.now.rows) }
 {
     know_distinct(pool);
-    pool.in_set(set).filter(|row| lies_at(row, place)).nth(0)
+    let mut left = pool.in_set(set);
+    while let Some(row) = left.next() {
+        if lies_at(&row, place) {
+            return Some(row);
+        }
+    }
+    None
 }
 
 // The row at a place.
@@ -31,7 +37,13 @@ pub(crate) fn row_at(pool: &EntryPool, place: Place) -> Option<Row>
     ensures apart { IsDistinct (numbers pool.now.rows) }
 {
     know_distinct(pool);
-    pool.by_age().filter(|row| lies_at(row, place)).nth(0)
+    let mut left = pool.by_age();
+    while let Some(row) = left.next() {
+        if lies_at(&row, place) {
+            return Some(row);
+        }
+    }
+    None
 }
 
 // The next older row after a mark.

@@ -1,7 +1,7 @@
 -- What a search for a key in its set finds, exit by exit, and a look-up by it.
 use Rattle.std.proofs.Common.{◌≡◌, ℕ, ◌<◌, Bool, true, false, List, Option, Some, None, Result, Ok, refl, sym, ap, subst, ◌∙◌}
 use Rattle.std.proofs.lemmas.Bool.{false≢true, OnTrue_at, OnFalse_at, OnTrue_from, OnFalse_from}
-use Rattle.std.specs.Prelude.{IsSomeAnd, IsTrue}
+use Rattle.std.specs.Prelude.{IsSome, IsSomeAnd, IsTrue, Err}
 use Rattle.std.specs.Bool.{OnFalse}
 use Rattle.std.specs.declared.alloc.AllocError.{AllocError}
 use Rattle.page_device.specs.Device.{IsKnown, faults_after}
@@ -179,6 +179,54 @@ module _ {D : Type 0} (size : ℕ) (pages : D → ℕ) (honest : D → Bool) (fa
         short = λ _ _. tt;
         shown = λ is. ap (visible_in (held device')) touched ∙ l.shown is;
       }
+    where
+      not_absent : Hit slot expires ≡ Absent → ⊥
+      not_absent e = cc
+
+      not_damaged : Hit slot expires ≡ Damaged → ⊥
+      not_damaged e = cc
+
+-- a value of which something is true is there
+some_of : (P : ℕ × Rec → Type 0) (o : Option (ℕ × Rec)) → IsSomeAnd o P → IsSome o
+some_of P None h = absurd h
+some_of P (Some x) h = refl
+
+module _ {D : Type 0} (size : ℕ) (pages : D → ℕ) (honest : D → Bool) (failures : D → ℕ) (held : D → ℕ → Option (List ℕ)) (at : Placed) (key : List ℕ) (moment : ℕ) (k : SetsState) (device : D) (was : List ℕ) (device' : D) (buffer : List ℕ) where
+  -- a look-up that touches nothing
+  pub looks-told : (found : LocatedInSet) → sets_after found at.set k ≡ k → SetLocates size pages honest failures held at key moment k device was found device' buffer →
+      SetLooks size pages honest failures held at key moment k device (Ok (looked_of found buffer)) k device'
+  looks-told found stays l =
+      let answer : LocatedInSet → Result Looked AllocError = λ (f : LocatedInSet). Ok (looked_of f buffer) in
+      record {
+        reads = l.reads;
+        keeps = l.keeps;
+        leaves = subst (λ (n : SetsState). SetLookLeaves k at.set (Ok (looked_of found buffer)) n) stays l.leaves;
+        denied = OnFalse_from _ _ (λ hidden.
+            let absent : (found ≡ Absent) × (device' ≡ device) = OnFalse_at hidden l.denied in
+            let both : (answer found ≡ Ok looked.Absent) × (device' ≡ device) = (ap answer absent.0, absent.1) in
+            both);
+        gives = λ is spelled. subst (λ (n : SetsState). SetLookGives (visible_in (held device) k at.set) key moment k at.set (looked_of found buffer) n) stays (l.gives is spelled);
+        foreign = λ is foreign. OnTrue_from _ _ (λ shows.
+            let damaged : OnFalse (is_set_fault (answer found)) (found ≡ Damaged) = OnTrue_at shows (l.foreign is foreign) in
+            let told : OnFalse (is_set_fault (answer found)) (answer found ≡ Ok looked.Damaged) = OnFalse_from _ _ (λ fault. ap answer (OnFalse_at fault damaged)) in
+            told);
+        short = λ _ _. tt;
+        shown = λ is. subst (λ (n : SetsState). visible_in (held device') n ≡ visible_in (held device) k) stays (l.shown is);
+      }
+
+  -- a look-up that memory refuses
+  pub looks-refused : (slot expires : ℕ) (e : AllocError) → SetLocates size pages honest failures held at key moment k device was (Hit slot expires) device' buffer →
+      SetLooks size pages honest failures held at key moment k device (Err e) k device'
+  looks-refused slot expires e l = record {
+    reads = l.reads;
+    keeps = l.keeps;
+    leaves = refl;
+    denied = OnFalse_from _ _ (λ hidden. let absent : (Hit slot expires ≡ Absent) × (device' ≡ device) = OnFalse_at hidden l.denied in absurd (not_absent absent.0));
+    gives = λ _ _. tt;
+    foreign = λ is foreign. OnTrue_from _ _ (λ shows. let damaged : Hit slot expires ≡ Damaged = OnTrue_at shows (l.foreign is foreign) in absurd (not_damaged damaged));
+    short = λ is spelled. some_of _ (first_visible (visible_in (held device) k at.set) key) (l.names is spelled);
+    shown = λ is. ap (λ (h : ℕ → Option (List ℕ)). visible_in h k) (l.reads.same is);
+  }
     where
       not_absent : Hit slot expires ≡ Absent → ⊥
       not_absent e = cc

@@ -264,11 +264,16 @@ fn visible(
             unreachable!();
         };
         let placed = place(layout, lent.key);
-        if sets.lets_show(set, &placed) {
-            let stored = lent.to_record(alloc)?;
-            let hit = sets.was_hit(set, slot);
-            visible.push(SetRecord { stored, hit })?;
+        if !sets.lets_show(set, &placed) {
+            continue;
         }
+        let Ok(stored) = lent.to_record(alloc) else {
+            return Err(AllocError);
+        };
+        let hit = sets.was_hit(set, slot);
+        let Ok(()) = visible.push(SetRecord { stored, hit }) else {
+            return Err(AllocError);
+        };
     }
     Ok(visible)
 }

@@ -2,7 +2,7 @@
 use crate::object::{MAX_FORMER_RECORDS, MAX_LOG_RECORDS, MAX_SET_RECORDS};
 
 // What a record says of expiry. A log page has one of these forms, in all its records.
-#[derive(Clone, Copy, PartialEq, Eq)]
+#[derive(Clone, Copy)]
 pub(crate) enum RecordForm {
     // It has its expiry: what is written.
     Timed,
@@ -11,7 +11,7 @@ pub(crate) enum RecordForm {
 }
 
 // The forms of a set page.
-#[derive(Clone, Copy, PartialEq, Eq)]
+#[derive(Clone, Copy)]
 pub(crate) enum SetForm {
     // Up to `MAX_SET_RECORDS` records with their expiry: what is written.
     Large,
@@ -22,7 +22,7 @@ pub(crate) enum SetForm {
 }
 
 // The form of a page of either kind.
-#[derive(Clone, Copy, PartialEq, Eq)]
+#[derive(Clone, Copy)]
 pub(crate) enum PageForm {
     // A set page of this form.
     Set(SetForm),

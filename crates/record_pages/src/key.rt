@@ -13,7 +13,7 @@ use std::marker::Model;
 use thiserror::Error;
 
 /// The key of an object: 1 to 255 bytes.
-#[derive(Debug, Drop)]
+#[derive(Drop)]
 pub struct Key {
     bytes: Vec<u8>,
 }

@@ -9,7 +9,7 @@ use std::marker::Model;
 use thiserror::Error;
 
 /// The value of an object: 0 to 2,048 bytes.
-#[derive(Debug, Drop)]
+#[derive(Drop)]
 pub struct Value {
     bytes: Vec<u8>,
 }

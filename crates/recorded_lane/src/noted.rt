@@ -3,7 +3,7 @@ use record_pages::Key;
 use trace_file::Act;
 
 /// A recorded call whose end is not drawn yet.
-#[derive(Debug, Drop)]
+#[derive(Drop)]
 pub struct Noted {
     /// The number of the caller.
     pub caller: u16,

@@ -1,3 +1,4 @@
+mod Choices
 mod Numerals
 mod FirstLine
 mod Taken

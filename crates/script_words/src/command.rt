@@ -100,6 +100,20 @@ fn put_command(
     }
 }
 
+/// The removal of a key, if the word writes one.
+fn remove_command(alloc: Global, key_word: &[u8]) -> Result<Option<Command>, AllocError>
+    ensures { IfOk result (λ command. command ≡ option_map Command.Remove (key_of key_word.now)) }
+{
+    Ok(key(alloc, key_word)?.map(Command::Remove))
+}
+
+/// The forgetting of a key, if the word writes one.
+fn forget_command(alloc: Global, key_word: &[u8]) -> Result<Option<Command>, AllocError>
+    ensures { IfOk result (λ command. command ≡ option_map Command.Forget (key_of key_word.now)) }
+{
+    Ok(key(alloc, key_word)?.map(Command::Forget))
+}
+
 /// The command that one word spells.
 #[tactic(auto, unfolding(crate::specs::Commands::bare_of))]
 fn bare_command(words: &[&[u8]]) -> Option<Command>
@@ -127,9 +141,9 @@ fn command_of_words(alloc: Global, words: &[&[u8]]) -> Result<Option<Command>, A
     } else if is_named(words, 3, b"get") {
         get_command(alloc, words[1], time(words[2]))
     } else if is_named(words, 2, b"remove") {
-        Ok(key(alloc, words[1])?.map(Command::Remove))
+        remove_command(alloc, words[1])
     } else if is_named(words, 2, b"forget") {
-        Ok(key(alloc, words[1])?.map(Command::Forget))
+        forget_command(alloc, words[1])
     } else if is_named(words, 4, b"put") {
         put_command(alloc, words[1], words[2], words[3], Some(NEVER))
     } else if is_named(words, 5, b"put") {

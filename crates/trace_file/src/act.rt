@@ -5,7 +5,7 @@ use crate::act_ref::ActRef;
 use record_pages::Value;
 
 /// What a call did to its key.
-#[derive(Debug, Drop)]
+#[derive(Drop)]
 pub enum Act {
     /// It put this value, which expires at this moment, or never with `2^64 - 1`.
     Put(Value, u64),

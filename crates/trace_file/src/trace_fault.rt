@@ -5,7 +5,7 @@ use std::error::Error;
 use std::fmt;
 
 /// Why a trace was not read: the first fault from its first byte to its last, with its offset.
-#[derive(Clone, Copy, Debug, PartialEq, Eq)]
+#[derive(Clone, Copy, PartialEq, Eq)]
 pub enum TraceFault {
     /// A byte of the magic differs; the first such byte.
     BadMagic { at: u64 },
@@ -27,23 +27,60 @@ pub enum TraceFault {
     OutOfMemory,
 }
 
+impl TraceFault {
+    ghost use Rattle.trace_file.specs.FaultText.{front_of, offset_of};
+
+    // What stands before the offset, or all if there is none.
+    fn front(self) -> &'static str
+        ensures { result.now ≡ front_of self }
+    {
+        match self {
+            TraceFault::BadMagic { .. } => "BadMagic at ",
+            TraceFault::TooMany { .. } => "TooMany at ",
+            TraceFault::BadKind { .. } => "BadKind at ",
+            TraceFault::BadKey { .. } => "BadKey at ",
+            TraceFault::BadValue { .. } => "BadValue at ",
+            TraceFault::Truncated { .. } => "Truncated at ",
+            TraceFault::TrailingBytes { .. } => "TrailingBytes at ",
+            TraceFault::ReadFault { .. } => "ReadFault at ",
+            TraceFault::OutOfMemory => "out of memory",
+        }
+    }
+
+    // The offset, if it has one.
+    fn offset(self) -> Option<u64>
+        ensures { result ≡ offset_of self }
+    {
+        match self {
+            TraceFault::BadMagic { at } => Some(at),
+            TraceFault::TooMany { at } => Some(at),
+            TraceFault::BadKind { at } => Some(at),
+            TraceFault::BadKey { at } => Some(at),
+            TraceFault::BadValue { at } => Some(at),
+            TraceFault::Truncated { at } => Some(at),
+            TraceFault::TrailingBytes { at } => Some(at),
+            TraceFault::ReadFault { at } => Some(at),
+            TraceFault::OutOfMemory => None,
+        }
+    }
+}
+
 impl fmt::Display for TraceFault {
     ghost use Rattle.trace_file.specs.FaultText.{trace_fault_text};
 
     ghost output = { λ fault. Some (trace_fault_text fault) };
 
     fn fmt<W: fmt::Write>(&self, f: &mut fmt::Formatter<W>) -> fmt::Result {
-        match self {
-            TraceFault::BadMagic { at } => write!(f, "BadMagic at {at}"),
-            TraceFault::TooMany { at } => write!(f, "TooMany at {at}"),
-            TraceFault::BadKind { at } => write!(f, "BadKind at {at}"),
-            TraceFault::BadKey { at } => write!(f, "BadKey at {at}"),
-            TraceFault::BadValue { at } => write!(f, "BadValue at {at}"),
-            TraceFault::Truncated { at } => write!(f, "Truncated at {at}"),
-            TraceFault::TrailingBytes { at } => write!(f, "TrailingBytes at {at}"),
-            TraceFault::ReadFault { at } => write!(f, "ReadFault at {at}"),
-            TraceFault::OutOfMemory => write!(f, "out of memory"),
+        match self.offset() {
+            Some(at) => write!(f, "{}{at}", self.front()),
+            None => write!(f, "{}", self.front()),
         }
+    }
+}
+
+impl fmt::Debug for TraceFault {
+    fn fmt<W: fmt::Write>(&self, f: &mut fmt::Formatter<W>) -> fmt::Result {
+        write!(f, "{self}")
     }
 }
 
