@@ -142,7 +142,8 @@ impl<const PAGE: usize> KLog<PAGE> {
         }
     }
 
-    // The newest live records of a set, or an entry of it whose page is lost.
+    // The newest live records of a set, or an entry of it whose page is lost. A clause for each fact of which `take_set` puts its
+    // answer together, on any device and on an honest one.
     fn gather<D: PageDevice<PAGE>>(
         &self,
         alloc: Global,

@@ -18,7 +18,8 @@ use page_device::PageDevice;
 use record_pages::{MissCause, ValueBuffer};
 use set_hash::Placed;
 
-// Where the log, or else its set, has a key. Its value goes into the buffer. Nothing changes but the device.
+// Where the log, or else its set, has a key. Its value goes into the buffer. Nothing changes but the device. The two
+// gets of the store, which copy a value or note where it is, and the recorded lane above them ask for one fact each.
 pub(super) fn locate_below<D: PageDevice<PAGE>, const PAGE: usize>(
     log: &KLog<PAGE>,
     sets: &KSet<PAGE>,
