@@ -1,4 +1,5 @@
 mod Copying
+mod Fitting
 mod StepCounts
 mod Stepping
 mod Tending

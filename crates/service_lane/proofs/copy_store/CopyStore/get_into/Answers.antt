@@ -1,5 +1,5 @@
 -- The store after a get that no copy answered.
-use Rattle.std.proofs.Common.{rules, ◌≡◌, Option, None, Some, ap, sym, ◌∙◌, subst}
+use Rattle.std.proofs.Common.{◌≡◌, Option, None, Some, ap, sym, ◌∙◌, subst}
 use Rattle.std.specs.Prelude.{IsTrue, IfSome, option_map}
 use Rattle.record_pages.specs.Expiry.{timed}
 use Rattle.mover.specs.Get.{answer_of}
@@ -9,6 +9,8 @@ use Rattle.service_lane.specs.declared.copied.Copied.TheVariants.{Nothing, Made}
 use Rattle.service_lane.specs.declared.new_copy.NewCopy.{NewCopy}
 use Rattle.service_lane.proofs.public_laws.Returning.{back_device}
 use Rattle.service_lane.proofs.Copying.{got_right, gone_current, got_copied, got_uncopied}
+use denote.Param.{param, number}
+use Rattle.service_lane.proofs.Fitting.{store_fits}
 use Rattle.service_lane.proofs.copy_store.CopyStore.get_into.Goals as goal
 
 pub invariant_of-self : goal.invariant_of-self
@@ -41,7 +43,7 @@ put_back-fate-requires g c =
     let got = c.get_into-kind in
     let made = c.in-Some-copy_hit.made in
     let leaves : HitLeaves (Some made) a.key.now got.result got.new.found i.copies c.copy_hit.new.copies = subst (λ (m : Option NewCopy). HitLeaves m a.key.now got.result got.new.found i.copies c.copy_hit.new.copies) c.in-Some-copy_hit.is c.copy_hit.ensures in (
-      search rules,
+      store_fits (param 0 g.row.D) (param 1 (number g.row.PAGE)) g.D.PageDevice assumption,
       subst (λ b. IfSome made.pushed (λ q. IsTrue b → current got.new.self.deeds q.key ≡ Some q.value)) (sym got.ensures.gets.reads.honesty)
           (gone_current (IsTrue (d.honest i.asked.store.device)) i.asked.deeds got.new.self.deeds a.key.now a.moment got.result got.new.found made i.copies c.copy_hit.new.copies got.ensures.deeds leaves got.ensures.expires c.self.invariant),
     )
@@ -74,3 +76,9 @@ returns-clause-gets g c =
 
 pub returns-clause-untouched : goal.returns-clause-untouched
 returns-clause-untouched g c misses = c.get_into-kind.ensures.untouched misses ∙ c.recall.ensures.untouched c.in_default.is
+
+pub get_into-kind-requires : goal.get_into-kind-requires
+get_into-kind-requires g c = store_fits (param 0 g.row.D) (param 1 (number g.row.PAGE)) g.D.PageDevice assumption
+
+pub recall-requires : goal.recall-requires
+recall-requires g c = assumption

@@ -2,6 +2,8 @@
 use Rattle.std.proofs.Common.{subst}
 use Rattle.service_lane.specs.Asked.{IsServed}
 use Rattle.service_lane.specs.Copies.{AreCopies, CopyAsked}
+use denote.Param.{param, number}
+use Rattle.service_lane.proofs.Fitting.{store_fits}
 use Rattle.service_lane.proofs.copy_store.CopyStore.layout.Goals as goal
 
 pub returns-clause-served : goal.returns-clause-served
@@ -11,3 +13,6 @@ returns-clause-served g c =
 
 pub returns-clause-copied : goal.returns-clause-copied
 returns-clause-copied g c = subst (λ (s : CopyAsked g.row.D.Denot). AreCopies g.D.PageDevice.honest s) c.self.view_is c.self.invariant
+
+pub layout-requires : goal.layout-requires
+layout-requires g c = store_fits (param 0 g.row.D) (param 1 (number g.row.PAGE)) g.D.PageDevice assumption

@@ -8,6 +8,8 @@ use Rattle.certificate_checker.specs.Current.{current}
 use Rattle.deeds.proofs.public_laws.Copying.{write_keeps}
 use Rattle.service_lane.specs.Copies.{CopyAsked, copy_gone}
 use Rattle.service_lane.proofs.Copying.{gone_right}
+use denote.Param.{param, number}
+use Rattle.service_lane.proofs.Fitting.{store_fits}
 use Rattle.service_lane.proofs.copy_store.CopyStore.put.Goals as goal
 
 pub invariant_of-self-2 : goal.invariant_of-self-2
@@ -25,3 +27,6 @@ pub returns-clause-puts : goal.returns-clause-puts
 returns-clause-puts g c =
     let a = c.args in
     subst (λ (s : CopyAsked g.row.D.Denot). StorePuts g.row.PAGE g.D.PageDevice.held (record { key = a.key; value = timed a.value a.expires }) a.word s.store (Ok c.in_ok-pushed.pushed) c.put.new.self.store) c.self.view_is c.in_ok-pushed.ensures.puts
+
+pub put-requires : goal.put-requires
+put-requires g c = store_fits (param 0 g.row.D) (param 1 (number g.row.PAGE)) g.D.PageDevice assumption

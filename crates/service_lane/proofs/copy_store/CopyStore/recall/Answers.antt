@@ -1,5 +1,5 @@
 -- The store after a copy answered, or none.
-use Rattle.std.proofs.Common.{rules, ◌≡◌, ℕ, List, Some, ap, sym, ◌∙◌, refl, subst}
+use Rattle.std.proofs.Common.{◌≡◌, ℕ, List, Some, ap, sym, ◌∙◌, refl, subst}
 use Rattle.std.specs.Prelude.{IsTrue}
 use Rattle.record_pages.specs.Expiry.{timed}
 use Rattle.record_pages.specs.declared.answer.Answer.TheVariants.{Hit}
@@ -9,6 +9,8 @@ use Rattle.certificate_checker.specs.Latest.{IsLive}
 use Rattle.deeds.proofs.public_laws.Copying.{current_kept, read_keeps}
 use Rattle.service_lane.specs.Copies.{CopyAsked, CopyAnswers, CopyList, copied_pairs, copy_in, copy_raised}
 use Rattle.service_lane.proofs.Copying.{AreRight, raised_right, copy_current, copy_live}
+use denote.Param.{param, number}
+use Rattle.service_lane.proofs.Fitting.{store_fits}
 use Rattle.service_lane.proofs.copy_store.CopyStore.recall.Goals as goal
 
 pub invariant_of-self-in_err-expires : goal.invariant_of-self-in_err-expires
@@ -19,7 +21,7 @@ invariant_of-self-in_err-expires g c is =
 
 pub note_hit-requires : goal.note_hit-requires
 note_hit-requires g c = (
-  search rules,
+  store_fits (param 0 g.row.D) (param 1 (number g.row.PAGE)) g.D.PageDevice assumption,
   λ is.
       let deeds = c.self.inside.asked.deeds in
       let right : AreRight deeds (Some c.in-Some.copies) = subst (AreRight deeds) c.in-Some.is (c.self.invariant is) in

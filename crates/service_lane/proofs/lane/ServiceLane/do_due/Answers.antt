@@ -82,3 +82,12 @@ returns-in-Err-clause-upkept g c =
       moves = c.in-Err.ensures.moves;
     } in
     subst (λ (s : Serving g.row.D.Denot). LacksMemory g.row.PAGE d.honest d.failures d.held plan_of s new) c.self.view_is done
+
+pub log_usage-requires : goal.log_usage-requires
+log_usage-requires g c = assumption
+
+pub flush_step-requires : goal.flush_step-requires
+flush_step-requires g c = assumption
+
+pub move_whole-requires : goal.move_whole-requires
+move_whole-requires g c = assumption

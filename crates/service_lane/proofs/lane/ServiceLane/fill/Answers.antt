@@ -83,3 +83,6 @@ returns-then-not-holds-clause-large g c =
     let no = c.if-not-holds.true in
     absurd (cc)) in
     (λ large. absurd (cc), λ both. absurd (ended both.0))
+
+pub fill_held-requires : goal.fill_held-requires
+fill_held-requires g c = assumption

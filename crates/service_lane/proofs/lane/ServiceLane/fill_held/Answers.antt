@@ -12,6 +12,8 @@ use Rattle.service_lane.specs.Counting.{bytes_of, counter_of_pushed, counts_refu
 use Rattle.service_lane.specs.Leases.{LeaseSlots, HoldsLease}
 use Rattle.service_lane.specs.Serving.{Serving, FillsStore}
 use Rattle.service_lane.proofs.Writing.{counted_write, counted_kept, unwritten}
+use denote.Param.{param, number}
+use Rattle.service_lane.proofs.Fitting.{asked_fits}
 use Rattle.service_lane.proofs.lane.ServiceLane.fill_held.Goals as goal
 
 pub invariant_of-self : goal.invariant_of-self
@@ -56,3 +58,6 @@ returns-in-Err-clause-refused g c =
     let counted = c.count-in-Err.ensures ∙ ap (λ (k : Counter). with_one k i.counts) c.of_refused_fill.ensures in
     ap (λ (s : CopyAsked g.row.D.Denot). lane s c.put_counted.new.slots c.count-in-Err.new.self) c.in-Err.ensures.asked_kept ∙ ap (λ (s : LeaseSlots). lane i.asked s c.count-in-Err.new.self) c.in-Err.ensures.slots_kept ∙ ap (λ (n : Counts). lane i.asked i.slots n) counted
     ∙ ap (λ (s : Serving g.row.D.Denot). record s { counts = counts_refused_fill fault s.counts }) c.self.view_is
+
+pub put_counted-requires : goal.put_counted-requires
+put_counted-requires g c = asked_fits (param 0 g.row.D) (param 1 (number g.row.PAGE)) g.D.PageDevice assumption

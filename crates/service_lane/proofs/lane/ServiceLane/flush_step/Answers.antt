@@ -6,6 +6,8 @@ use Rattle.service_lane.specs.Counting.{counts_flush}
 use Rattle.service_lane.specs.Serving.{Serving}
 use Rattle.service_lane.proofs.Stepping.{stepped}
 use Rattle.service_lane.proofs.Writing.{counted_kept}
+use denote.Param.{param, number}
+use Rattle.service_lane.proofs.Fitting.{asked_fits}
 use Rattle.service_lane.proofs.lane.ServiceLane.flush_step.Goals as goal
 
 pub invariant_of-self : goal.invariant_of-self
@@ -26,3 +28,6 @@ pub returns-clause-flushes : goal.returns-clause-flushes
 returns-clause-flushes g c =
     let d = g.D.PageDevice in
     subst (λ (s : Serving g.row.D.Denot). StoreFlushes d.honest d.failures d.held s.store c.flush_step-flushed.result c.flush_step-flushed.new.self.store) c.self.view_is c.flush_step-flushed.ensures.flushes
+
+pub flush_step-flushed-requires : goal.flush_step-flushed-requires
+flush_step-flushed-requires g c = asked_fits (param 0 g.row.D) (param 1 (number g.row.PAGE)) g.D.PageDevice assumption

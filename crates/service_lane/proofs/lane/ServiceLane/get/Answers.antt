@@ -8,6 +8,8 @@ use Rattle.std.specs.Prelude.{IsTrue, option_and_then}
 use Rattle.service_lane.specs.Asked.{TellsExpiry}
 use Rattle.service_lane.specs.Serving.{Serving, Gets}
 use Rattle.service_lane.proofs.Writing.{counted_got}
+use denote.Param.{param, number}
+use Rattle.service_lane.proofs.Fitting.{asked_fits}
 use Rattle.service_lane.proofs.lane.ServiceLane.get.Goals as goal
 
 -- what was answered was not refused, told by this result or that
@@ -90,3 +92,6 @@ returns-in-Err-clause-refused g c = refl
 
 pub returns-in-Err-clause-refused_found : goal.returns-in-Err-clause-refused_found
 returns-in-Err-clause-refused_found g c = refl
+
+pub get_into-seen-requires : goal.get_into-seen-requires
+get_into-seen-requires g c = asked_fits (param 0 g.row.D) (param 1 (number g.row.PAGE)) g.D.PageDevice assumption

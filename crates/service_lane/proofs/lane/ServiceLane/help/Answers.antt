@@ -46,3 +46,6 @@ returns-after-loop-steps g c =
     let few = was.few in
     let last = c.loop-steps-test.false in
     record { rest = was.rest; few = was.few; steps = was.steps; counted = was.counted; unasked = was.unasked; enough = λ near. inr (omega (arith, few, last)) }
+
+pub help_once-asked_device-requires : goal.help_once-asked_device-requires
+help_once-asked_device-requires g c = assumption

@@ -40,3 +40,6 @@ returns-clause-once g c =
           ap (λ (n : Counts). record v { counts = n }) c.count.ensures
           ∙ ap (λ (s : Serving g.row.D.Denot). record s { counts = counts_help s.counts }) c.self.view_is;
     }
+
+pub upkeep_step-step-requires : goal.upkeep_step-step-requires
+upkeep_step-step-requires g c = assumption

@@ -4,6 +4,8 @@ use Rattle.service_lane.specs.Asked.{IsServed}
 use Rattle.service_lane.specs.Leases.{AreCounted}
 use Rattle.service_lane.specs.Copies.{AreCopies}
 use Rattle.service_lane.specs.Serving.{Serving, asked_of}
+use denote.Param.{param, number}
+use Rattle.service_lane.proofs.Fitting.{asked_fits}
 use Rattle.service_lane.proofs.lane.ServiceLane.layout.Goals as goal
 
 pub returns-clause-served : goal.returns-clause-served
@@ -16,3 +18,6 @@ returns-clause-copied g c = subst (λ (s : Serving g.row.D.Denot). AreCopies g.D
 
 pub returns-clause-counted : goal.returns-clause-counted
 returns-clause-counted g c = subst (λ (s : Serving g.row.D.Denot). AreCounted s.deeds s.slots) c.self.view_is c.self.invariant
+
+pub layout-requires : goal.layout-requires
+layout-requires g c = asked_fits (param 0 g.row.D) (param 1 (number g.row.PAGE)) g.D.PageDevice assumption

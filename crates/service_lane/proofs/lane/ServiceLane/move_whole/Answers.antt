@@ -6,6 +6,8 @@ use Rattle.service_lane.specs.Counting.{counts_move}
 use Rattle.service_lane.specs.Serving.{Serving}
 use Rattle.service_lane.proofs.Stepping.{stepped}
 use Rattle.service_lane.proofs.Writing.{counted_kept}
+use denote.Param.{param, number}
+use Rattle.service_lane.proofs.Fitting.{asked_fits}
 use Rattle.service_lane.proofs.lane.ServiceLane.move_whole.Goals as goal
 
 pub invariant_of-self : goal.invariant_of-self
@@ -29,3 +31,6 @@ returns-clause-moved g c =
     let left : new ≡ record old { store = new.store; counts = counts_move answer old.counts } =
     stepped old new (counts_move answer i.counts) c.move_whole.ensures.deeds c.move_whole.ensures.copies refl (c.count_if.ensures ∙ ap (λ k. with_one_if k i.counts) c.of_moved.ensures) in
     subst (λ (s : Serving g.row.D.Denot). new ≡ record s { store = new.store; counts = counts_move answer s.counts }) c.self.view_is left
+
+pub move_whole-requires : goal.move_whole-requires
+move_whole-requires g c = asked_fits (param 0 g.row.D) (param 1 (number g.row.PAGE)) g.D.PageDevice assumption

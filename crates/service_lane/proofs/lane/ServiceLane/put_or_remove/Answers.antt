@@ -24,3 +24,9 @@ returns-in-Err-clause-removed g c =
     let new = c.remove_kept.new.self in
     subst (λ (s : Serving g.row.D.Denot). Removes held c.args.key s new) c.in-Err.ensures.refused
     (subst (λ (k : List ℕ). Removes held k c.put.new.self new) (c.bytes.ensures.bytes ∙ c.of-kept.ensures) c.remove_kept.ensures)
+
+pub put-requires : goal.put-requires
+put-requires g c = assumption
+
+pub remove_kept-requires : goal.remove_kept-requires
+remove_kept-requires g c = assumption

@@ -31,3 +31,6 @@ returns-in-Err-clause-memory g c = c.in-Err.ensures.memory
 
 pub returns-in-Err-clause-refused : goal.returns-in-Err-clause-refused
 returns-in-Err-clause-refused g c = refl
+
+pub remove_kept-requires : goal.remove_kept-requires
+remove_kept-requires g c = assumption

@@ -1,0 +1,7 @@
+-- The store fits in memory, as the whole does.
+use denote.Param.{param, number}
+use Rattle.service_lane.proofs.Fitting.{store_fits}
+use Rattle.service_lane.proofs.copy_store.CopyStore.move_whole.Goals as goal
+
+pub move_whole-requires : goal.move_whole-requires
+move_whole-requires g c = store_fits (param 0 g.row.D) (param 1 (number g.row.PAGE)) g.D.PageDevice assumption
