@@ -1,5 +1,6 @@
 // A recorded call, before its end is drawn.
 use record_pages::Key;
+use std::fmt;
 use trace_file::Act;
 
 /// A recorded call whose end is not drawn yet.
@@ -15,4 +16,11 @@ pub struct Noted {
     pub key: Key,
     /// What it did.
     pub act: Act,
+}
+
+/// An error that holds such a call has to have a `Debug`. What it shows of the call is that it is one.
+impl fmt::Debug for Noted {
+    fn fmt<W: fmt::Write>(&self, f: &mut fmt::Formatter<W>) -> fmt::Result {
+        f.write_str("Noted")
+    }
 }
