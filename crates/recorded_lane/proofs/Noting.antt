@@ -1,5 +1,5 @@
 -- Each call of a lane keeps what is true of its calls; and what its store is, the lane is.
-use Rattle.std.proofs.Common.{◌≡◌, ◌<◌, ℕ, Bool, List, [], ◌∷◌, ◌++◌, length, Option, sym, ap, ◌∙◌, refl, subst, arith}
+use Rattle.std.proofs.Common.{◌≡◌, ◌<◌, ◌-◌, ℕ, take, Bool, List, [], ◌∷◌, ◌++◌, length, Option, sym, ap, ◌∙◌, refl, subst, arith}
 use Rattle.std.specs.Prelude.{All}
 use Rattle.std.proofs.lemmas.List.{map-append, length-append}
 use Rattle.std.proofs.lemmas.List.Elements.{All-push}
@@ -27,6 +27,16 @@ noted_opened store layout lane calls deeds below same none nothing = rw (none, n
 -- the calls of a lane after one more
 pub lane_more : {D : Type 0} (store : StoreState D) (inside now : Lane D) (calls : List Noted) (n : Noted) → inside ≡ now → calls ≡ inside.calls ++ n ∷ [] → record { store = store; lane = inside.lane; calls = calls } ≡ record now { store = store; calls = now.calls ++ n ∷ [] }
 lane_more {D} store inside now calls n is more = rw more (ap (λ (l : Lane D). record l { store = store; calls = l.calls ++ n ∷ [] }) is)
+
+-- a record whose last call was taken off again
+without_last : (old : List Noted) (n : Noted) → take (length old) (old ++ n ∷ []) ≡ old
+without_last [] n = refl
+without_last (m ∷ old) n = ap (λ (ns : List Noted). m ∷ ns) (without_last old n)
+
+pub dropped : (calls old more : List Noted) (n : Noted) → more ≡ old ++ n ∷ [] → calls ≡ take (length more - 1) more → calls ≡ old
+dropped calls old more n is less =
+    let count : length (old ++ n ∷ []) - 1 ≡ length old = omega (arith, length-append old (n ∷ [])) in
+    less ∙ ap (λ (ns : List Noted). take (length ns - 1) ns) is ∙ ap (λ (k : ℕ). take k (old ++ n ∷ [])) count ∙ without_last old n
 
 module _ {D : Type 0} (lane : Lane D) (deeds : List Deed) (noted : IsNoted lane deeds) where
   -- the lane whose store was served so

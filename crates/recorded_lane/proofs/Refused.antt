@@ -1,6 +1,6 @@
 -- When a put is refused, by what its result is and how much room there is.
 use Rattle.std.proofs.Common.{◌≡◌, ◌<◌, ◌≤◌, ◌↔◌, ℕ, Bool, true, false, Result, Ok, Err, IsErrOf, refl, inl, inr, arith}
-use Rattle.std.specs.Prelude.{IsTrue, IsErrAnd}
+use Rattle.std.specs.Prelude.{IsTrue}
 use Rattle.std.proofs.lemmas.Bool.{cases_lt}
 use Rattle.recorded_lane.specs.declared.record_put_fault.RecordPutFault.{RecordPutFault}
 use Rattle.recorded_lane.specs.declared.record_put_fault.RecordPutFault.TheVariants.{TooLarge, HistoryFull, OutOfMemory}
@@ -10,14 +10,6 @@ use Rattle.recorded_lane.specs.Lane.{max_calls}
 
 pub no_fault : {X : Type 0} (x : X) (fault : RecordPutFault) → IsErrOf (Ok x) fault → ⊥
 no_fault x fault is = cc
-
-memory_not : {X : Type 0} (result : Result X RecordPutFault) (fault : RecordPutFault) → (OutOfMemory ≡ fault → ⊥) → IsErrAnd result (λ e. e ≡ OutOfMemory) → IsErrOf result fault → ⊥
-memory_not (Ok x) fault other and is = cc
-memory_not (Err e) fault other and is = other (let same : e ≡ fault = cc in cc)
-
--- memory was refused
-pub for_memory : {X : Type 0} (result : Result X RecordPutFault) → IsErrAnd result (λ e. e ≡ OutOfMemory) → (IsErrOf result TooLarge → ⊥) × (IsErrOf result HistoryFull → ⊥)
-for_memory result and = (memory_not result TooLarge (λ same. cc) and, memory_not result HistoryFull (λ same. cc) and)
 
 -- an object that is not too large fits
 pub fits : (large : Bool) (needed fit : ℕ) → (IsTrue large ↔ (fit < needed)) → large ≡ false → needed ≤ fit
@@ -45,3 +37,11 @@ other_large needed fit result other within = ((λ is. absurd (other is)), (λ ov
 
 pub other_full : {X : Type 0} (needed fit calls : ℕ) (result : Result X RecordPutFault) → (IsErrOf result HistoryFull → ⊥) → calls < max_calls → IsErrOf result HistoryFull ↔ ((needed ≤ fit) × (max_calls ≤ calls))
 other_full needed fit calls result other less = ((λ is. absurd (other is)), (λ both. let past = both.1 in absurd (omega (arith, past))))
+
+-- ---- memory was refused
+
+pub memory_large : {X : Type 0} (needed fit : ℕ) → needed ≤ fit → IsErrOf {T = X} (Err OutOfMemory) TooLarge ↔ (fit < needed)
+memory_large needed fit within = ((λ is. absurd cc), (λ over. absurd (omega (arith, over))))
+
+pub memory_full : {X : Type 0} (needed fit calls : ℕ) → calls < max_calls → IsErrOf {T = X} (Err OutOfMemory) HistoryFull ↔ ((needed ≤ fit) × (max_calls ≤ calls))
+memory_full needed fit calls less = ((λ is. absurd cc), (λ both. let past = both.1 in absurd (omega (arith, past))))

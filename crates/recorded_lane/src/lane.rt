@@ -286,18 +286,14 @@ impl<D: PageDevice<PAGE>, const PAGE: usize> RecordedLane<D, PAGE> {
         if self.calls.len() >= MAX_CALLS {
             return Err(RecordPutFault::HistoryFull);
         }
-        let calls = &mut self.calls;
-        let pushed = put_noted(
-            calls,
-            &mut self.store,
-            caller,
-            start,
-            point,
-            key,
-            value,
-            word,
-            expires,
-        )?;
+        let put = ActRef::Put(value.bytes(), expires);
+        let Ok(()) = self.calls.push(caller, start, point, &key, put) else {
+            return Err(RecordPutFault::OutOfMemory);
+        };
+        let Ok(pushed) = self.store.put(key, value, word, expires) else {
+            self.calls.drop_last();
+            return Err(RecordPutFault::OutOfMemory);
+        };
         Ok(pushed)
     }
 
@@ -358,40 +354,4 @@ impl<D: PageDevice<PAGE>, const PAGE: usize> RecordedLane<D, PAGE> {
             device: self.store.into_device(),
         }
     }
-}
-
-/// Records a put and does it. If memory is refused, record and store are as they were.
-fn put_noted<D: PageDevice<PAGE>, const PAGE: usize>(
-    calls: &mut CallRecord,
-    store: &mut DeedStore<D, PAGE>,
-    caller: u16,
-    start: u64,
-    point: u64,
-    key: Key,
-    value: Value,
-    word: u32,
-    expires: u64,
-) -> Result<Pushed, AllocError>
-    ensures recorded { OnOk result (calls.new ≡ calls.old ++ (record {
-      caller = caller;
-      start = start;
-      point = point;
-      key = key;
-      act = Act.Put value expires;
-    }) ∷ []) }
-    ensures puts { IfOk result (λ pushed. StorePuts PAGE D.held
-        (record { key = key; value = timed value expires }) word store.old.store (Ok pushed)
-        store.new.store) }
-    ensures deeds { OnOk result (store.new.deeds ≡ store.old.deeds
-        ++ record { key = key; act = Act.Put value expires } ∷ []) }
-    ensures calls_kept { OnErr result (calls.new ≡ calls.old) }
-    ensures store_kept { OnErr result (store.new ≡ store.old) }
-{
-    let act = ActRef::Put(value.bytes(), expires);
-    calls.push(caller, start, point, &key, act)?;
-    let Ok(pushed) = store.put(key, value, word, expires) else {
-        calls.drop_last();
-        return Err(AllocError);
-    };
-    Ok(pushed)
 }
