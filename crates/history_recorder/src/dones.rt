@@ -4,7 +4,7 @@ ghost use Rattle.std.specs.Option.{option_map};
 ghost use Rattle.trace_file.specs.Calls.{IsCall};
 ghost use Rattle.trace_file.specs.Lent.{call_shown};
 ghost use Rattle.certificate_checker.specs.Lanes.{calls_of};
-ghost use Rattle.history_recorder.specs.Done.{dones_in};
+ghost use Rattle.history_recorder.specs.Done.{done_with, dones_in};
 
 use certificate_checker::Done;
 use std::alloc::{AllocError, Global};
@@ -71,9 +71,20 @@ impl Dones {
     {
         let call = done.call.lent();
         let at_point = CallRef::new(call.caller, call.start, done.point, call.key, call.act);
+        self.push_lent(&at_point, call.end)?;
+        Ok(())
+    }
+
+    /// Puts a call that is lent with its point for its end after the others, with this end, or leaves the list as it was
+    /// if memory is refused.
+    fn push_lent(&mut self, at_point: &CallRef<'_>, end: u64) -> Result<(), AllocError>
+        requires { IsCall (call_shown at_point.now) }
+        ensures ok { OnOk result (self.new ≡ self.old ++ done_with (call_shown at_point.now) end ∷ []) }
+        ensures err { OnErr result (self.new ≡ self.old) }
+    {
         self.ends.reserve(1)?;
-        self.calls.push_ref(&at_point)?;
-        self.ends.push(call.end).unwrap();
+        self.calls.push_ref(at_point)?;
+        self.ends.push(end).unwrap();
         Ok(())
     }
 

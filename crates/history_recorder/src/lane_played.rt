@@ -47,10 +47,8 @@ impl<D: PageDevice<PAGE>, const PAGE: usize> PlayedLane<PAGE> for RecordedLane<D
                 Err(refused) => Err(refused),
             },
             Operation::Put(key, value, word, expires) => {
-                match act_put(self, caller, start, point, key, value, word, expires) {
-                    Ok(acted) => Ok(acted),
-                    Err(refused) => Err(refused),
-                }
+                let noted = noted_put(caller, start, point, &key, &value, expires)?;
+                Ok(act_put(self, noted, key, value, word, expires))
             }
             Operation::Remove(key) => Ok(act_remove(self, caller, start, point, key)),
         }
@@ -119,44 +117,72 @@ fn act_get<D: PageDevice<PAGE>, const PAGE: usize>(
     }
 }
 
-/// A put, as it is played.
-fn act_put<D: PageDevice<PAGE>, const PAGE: usize>(
-    recorded: &mut RecordedLane<D, PAGE>,
+/// What is recorded of a put, in a copy.
+fn noted_put(
     caller: u16,
     start: u64,
     point: u64,
+    key: &Key,
+    value: &Value,
+    expires: u64,
+) -> Result<Noted, AllocError>
+    ensures { IfOk result (λ noted. noted ≡ record {
+      caller = caller;
+      start = start;
+      point = point;
+      key = key.now;
+      act = Act.Put value.now expires;
+    }) }
+{
+    let key = key.try_clone()?;
+    let value = value.try_clone()?;
+    Ok(Noted {
+        caller,
+        start,
+        point,
+        key,
+        act: Act::Put(value, expires),
+    })
+}
+
+/// A put, as it is played, with what is to be recorded of it.
+fn act_put<D: PageDevice<PAGE>, const PAGE: usize>(
+    recorded: &mut RecordedLane<D, PAGE>,
+    noted: Noted,
     key: Key,
     value: Value,
     word: u32,
     expires: u64,
-) -> Result<ActReply, AllocError>
-    requires start { start < point }
-    requires rises { All (λ n. n.point < point) recorded.old.calls }
+) -> ActReply
+    requires start { noted.start < noted.point }
+    requires rises { All (λ n. n.point < noted.point) recorded.old.calls }
     requires own { IsOfLane recorded.old.store.layout recorded.old.lane key }
-    ensures { IfOk result (λ acted. LaneActs D.honest D.held PAGE caller start point
-        (Operation.Put key value word expires) recorded.old acted recorded.new) }
+    requires put { noted ≡ record noted { key = key; act = Act.Put value expires } }
+    ensures { LaneActs D.honest D.held PAGE noted.caller noted.start noted.point
+        (Operation.Put key value word expires) recorded.old result recorded.new }
 {
-    let noted = Noted {
-        caller,
-        start,
-        point,
-        key: key.try_clone()?,
-        act: Act::Put(value.try_clone()?, expires),
-    };
-    match recorded.put(caller, start, point, key, value, word, expires) {
+    match recorded.put(
+        noted.caller,
+        noted.start,
+        noted.point,
+        key,
+        value,
+        word,
+        expires,
+    ) {
         Ok(pushed) => {
             know_recorded(recorded);
-            Ok(ActReply {
+            ActReply {
                 reply: Reply::Stored(Ok(pushed)),
                 noted: Some(noted),
-            })
+            }
         }
         Err(fault) => {
             know_recorded(recorded);
-            Ok(ActReply {
+            ActReply {
                 reply: Reply::Stored(Err(fault)),
                 noted: None,
-            })
+            }
         }
     }
 }

@@ -73,7 +73,9 @@ impl<D: PageDevice<PAGE>, const PAGE: usize> World<D, PAGE> {
 }
 
 ghost use Rattle.history_recorder.specs.Game.{unboxed};
-ghost use Rattle.history_recorder.specs.Opened.{AreTheLanes, devices_of};
+ghost use Rattle.history_recorder.specs.Opened.{AreTheLanes, devices_of, opening_lane};
+ghost use Rattle.recorded_lane.specs.Lane.{IsRecorded};
+ghost use Rattle.std.specs.Box.{box_value};
 
 /// Whether one of the devices has fewer pages than are needed.
 fn is_one_below<D: PageDevice<PAGE>, const PAGE: usize>(devices: &[D], needed: u32) -> bool
@@ -104,11 +106,29 @@ fn open_lanes<D: PageDevice<PAGE>, const PAGE: usize>(
     let mut lanes = Vec::new(alloc);
     let mut number = 0;
     for device in devices {
-        let boxed = Boxed::new(alloc, device)?;
-        let lane = RecordedLane::with_layout(alloc, layout, number, boxed)?;
-        know_recorded(&lane);
-        lanes.push(Box::new(alloc, lane)?)?;
+        let lane = boxed_lane(alloc, layout, number, device)?;
+        lanes.push(lane)?;
         number += 1;
     }
     Ok(lanes)
+}
+
+/// The lane with this number over its device. Nothing is tested again.
+fn boxed_lane<D: PageDevice<PAGE>, const PAGE: usize>(
+    alloc: Global,
+    layout: &Layout,
+    number: u32,
+    device: D,
+) -> Result<Box<RecordedLane<Boxed<D>, PAGE>>, AllocError>
+    requires page_size { IsPageSize PAGE }
+    requires lane { number < layout.now.lanes }
+    requires room { layout_pages layout.now ≤ D.page_count device }
+    ensures lane { IfOk result (λ lane. box_value lane ≡ opening_lane layout.now number device) }
+    ensures recorded { IfOk result (λ lane. IsRecorded D.honest D.held (box_value lane)) }
+{
+    let boxed = Boxed::new(alloc, device)?;
+    let lane = RecordedLane::with_layout(alloc, layout, number, boxed)?;
+    know_recorded(&lane);
+    let placed = Box::new(alloc, lane)?;
+    Ok(placed)
 }

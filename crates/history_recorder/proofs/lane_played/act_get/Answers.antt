@@ -10,3 +10,12 @@ returns-in_ok-act_from-in-Ok g c =
 
 pub returns-in-Err : goal.returns-in-Err
 returns-in-Err g c = got_err g.D.PageDevice.honest g.D.PageDevice.failures g.D.PageDevice.held c.args.recorded.now c.get.new.self c.know_recorded-in-Err.ensures g.row.PAGE c.args.caller c.args.start c.args.point c.args.key c.args.moment c.get.result c.in-Err.fault c.in-Err.is c.in-Err.ensures.refused.unrecorded c.get.ensures.full c.get.ensures.full_keeps c.in-Err.ensures.refused.asked
+
+pub get-requires : goal.get-requires
+get-requires g c = (assumption, (c.requires.start, (c.requires.rises, c.requires.own)))
+
+pub know_recorded-requires : goal.know_recorded-requires
+know_recorded-requires g c = assumption
+
+pub know_recorded-requires-in-Err : goal.know_recorded-requires-in-Err
+know_recorded-requires-in-Err g c = assumption

@@ -7,3 +7,12 @@ returns-in-Ok g c = removed_ok g.D.PageDevice.honest g.D.PageDevice.failures g.D
 
 pub returns-in-Err : goal.returns-in-Err
 returns-in-Err g c = removed_err g.D.PageDevice.honest g.D.PageDevice.failures g.D.PageDevice.held c.args.recorded.now c.remove.new.self c.know_recorded-in-Err.ensures g.row.PAGE c.args.caller c.args.start c.args.point c.args.key c.remove.result c.in-Err.fault c.in-Err.is c.in-Err.ensures.err c.remove.ensures.full
+
+pub remove-requires : goal.remove-requires
+remove-requires g c = (assumption, (c.requires.start, (c.requires.rises, c.requires.own)))
+
+pub know_recorded-requires : goal.know_recorded-requires
+know_recorded-requires g c = assumption
+
+pub know_recorded-requires-in-Err : goal.know_recorded-requires-in-Err
+know_recorded-requires-in-Err g c = assumption
