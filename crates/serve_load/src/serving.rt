@@ -22,7 +22,7 @@ use key_hash::RandomSeed;
 use load::{FileName, ServeLoad, SystemFault};
 use page_device::PageDevice;
 use rriparoo::Rriparoo;
-use service_cache::{OpenServiceFault, ServiceCache};
+use service_cache::{OpenServiceFault, ServiceCache, ServiceOptions};
 use std::alloc::Global;
 use std::fs::File;
 use std::io::{IsTerminal, Write};
@@ -231,12 +231,15 @@ fn open<D: PageDevice<PAGE>, L: KeyLanes, J: BookName>(
     ensures lanes { IfOk result (λ cache. 0 < lanes_of cache) }
     ensures refused { IfErr result (λ ended. IsFailure ended.end) }
 {
+    let options = ServiceOptions {
+        shards: shape.shards,
+        lease_slots: shape.lease_slots,
+        bring_back: shape.bring_back,
+    };
     match LoadCache::<D, L, J>::with_layout(
         alloc,
         &shape.layout,
-        shape.shards,
-        shape.lease_slots,
-        shape.bring_back,
+        &options,
         devices,
         Rriparoo,
         seed,

@@ -1,5 +1,6 @@
 mod Answering
 mod Filling
+mod Fitting
 mod Honesty
 mod Helping
 mod Latest

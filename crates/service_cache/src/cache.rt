@@ -6,6 +6,7 @@ ghost use Rattle.service_cache.specs.Sorted.{AreAsSaid, SortsBy};
 
 use crate::open_service_fault::OpenServiceFault;
 use crate::opening::{Locked, lanes_over};
+use crate::service_options::ServiceOptions;
 use cache_sizes::MAX_SHARDS;
 use deed_book::{BookName, KeyLanes, NamedBook, Seat};
 use key_hash::RandomSeed;
@@ -69,17 +70,14 @@ impl<
     L: KeyLanes,
     J: BookName,
 > ServiceCache<D, P, PAGE, L, J> {
-    /// A cache of this many shards of this configuration, with empty lanes, one over each device, whose moves go by
-    /// this policy, and a book with no write. Its refusals are tested in the order of `OpenServiceFault`; devices,
-    /// policy and book are dropped with each.
+    /// A cache of shards of this configuration, with empty lanes, one over each device, whose moves go by this policy, and a book with
+    /// no write. Its refusals are tested in the order of `OpenServiceFault`; devices, policy and book are dropped with each.
     ///
-    /// Objects that leave memory stay on flash: `with_layout` can bring them back. The seed decides in which lane a key is, and
-    /// all else of a lane that is random comes from it. Draw it at random.
+    /// The seed decides in which lane a key is, and all else of a lane that is random comes from it. Draw it at random.
     pub fn open(
         alloc: Global,
         config: &Config,
-        shards: u32,
-        lease_slots: u32,
+        options: &ServiceOptions,
         devices: Vec<D>,
         policy: P,
         seed: RandomSeed,
@@ -89,39 +87,27 @@ impl<
         requires sorted { SortsBy L.lanes L.lane_of seed (length devices.items) }
         requires honest { AreAsSaid L.is_honest D.honest devices.items }
         ensures numbers { IfOk result (λ cache. HasNumbersOf cache.layout config.now
-            × (cache.shards ≡ shards)) }
-        ensures serves { OnOk result (CanOpen PAGE D.page_count config.now shards lease_slots devices.items) }
-        ensures refused { IfErr result
-            (RefusesOpening PAGE D.page_count config.now shards lease_slots devices.items) }
+            × (cache.shards ≡ options.now.shards)) }
+        ensures serves { OnOk result (CanOpen PAGE D.page_count config.now options.now.shards
+            options.now.lease_slots devices.items) }
+        ensures refused { IfErr result (RefusesOpening PAGE D.page_count config.now options.now.shards
+            options.now.lease_slots devices.items) }
     {
         let layout = match config.check() {
             Ok(layout) => layout,
             Err(fault) => return Err(OpenServiceFault::ConfigFault(fault.field)),
         };
-        match Self::with_layout(
-            alloc,
-            &layout,
-            shards,
-            lease_slots,
-            0,
-            devices,
-            policy,
-            seed,
-            book,
-        ) {
+        match Self::with_layout(alloc, &layout, options, devices, policy, seed, book) {
             Ok(cache) => Ok(cache),
             Err(fault) => Err(fault),
         }
     }
 
-    /// A cache as `open` makes it, of numbers that were checked already. In each lane one of `bring_back` hits on flash has its
-    /// object brought back into memory, as `ServiceLane::with_layout` does it; 0 brings none back.
+    /// A cache as `open` makes it, of numbers that were checked already.
     pub fn with_layout(
         alloc: Global,
         layout: &Layout,
-        shards: u32,
-        lease_slots: u32,
-        bring_back: u32,
+        options: &ServiceOptions,
         devices: Vec<D>,
         policy: P,
         seed: RandomSeed,
@@ -132,41 +118,30 @@ impl<
         requires honest { AreAsSaid L.is_honest D.honest devices.items }
         ensures numbers { IfOk result (λ cache. cache ≡ record {
           layout = layout.now;
-          shards = shards;
+          shards = options.now.shards;
         }) }
-        ensures serves { OnOk result (CanServe PAGE D.page_count (layout_needs layout.now) shards
-            lease_slots devices.items) }
+        ensures serves { OnOk result (CanServe PAGE D.page_count (layout_needs layout.now)
+            options.now.shards options.now.lease_slots devices.items) }
         ensures refused { IfErr result (RefusesLanes PAGE D.page_count (layout_needs layout.now)
-            shards lease_slots devices.items) }
+            options.now.shards options.now.lease_slots devices.items) }
     {
-        if shards == 0 || shards > MAX_SHARDS {
-            return Err(OpenServiceFault::Shards);
+        match check_lanes(layout, options, devices.as_slice()) {
+            Ok(()) => {
+                let start = book.seat();
+                match lanes_over(alloc, layout, options, devices, seed, book) {
+                    Ok(lanes) => Ok(ServiceCache {
+                        layout: *layout,
+                        shards: options.shards,
+                        seed,
+                        policy,
+                        lanes,
+                        start,
+                    }),
+                    Err(_) => Err(OpenServiceFault::OutOfMemory),
+                }
+            }
+            Err(fault) => Err(fault),
         }
-        if devices.len() != (shards * layout.lanes) as usize {
-            return Err(OpenServiceFault::DeviceCount);
-        }
-        if lease_slots == 0 {
-            return Err(OpenServiceFault::NoLeaseSlots);
-        }
-        if PAGE < 256 || PAGE > 4096 {
-            return Err(OpenServiceFault::WrongPage);
-        }
-        if is_one_too_small(layout.pages(), devices.as_slice()) {
-            return Err(OpenServiceFault::DeviceTooSmall);
-        }
-        let start = book.seat();
-        let Ok(lanes) = lanes_over(alloc, layout, lease_slots, bring_back, devices, seed, book)
-        else {
-            return Err(OpenServiceFault::OutOfMemory);
-        };
-        Ok(ServiceCache {
-            layout: *layout,
-            shards,
-            seed,
-            policy,
-            lanes,
-            start,
-        })
     }
 
     /// How many lanes it has, those of all shards.
@@ -201,6 +176,38 @@ impl<
 
 ghost use Rattle.std.specs.Prelude.{◌≤◌, ◌<◌, ◌^◌};
 ghost use Rattle.service_cache.specs.Sorted.{scaled};
+
+// Tests what is asked of shards and of the devices of their lanes, in the order of `OpenServiceFault`.
+fn check_lanes<D: PageDevice<PAGE>, const PAGE: usize>(
+    layout: &Layout,
+    options: &ServiceOptions,
+    devices: &[D],
+) -> Result<(), OpenServiceFault>
+    ensures serves { OnOk result (CanServe PAGE D.page_count (layout_needs layout.now)
+        options.now.shards options.now.lease_slots devices.now) }
+    ensures few { OnOk result (length devices.now < 2 ^ 32) }
+    ensures some { OnOk result (1 ≤ length devices.now) }
+    ensures refused { IfErr result (RefusesLanes PAGE D.page_count (layout_needs layout.now)
+        options.now.shards options.now.lease_slots devices.now) }
+{
+    let shards = options.shards;
+    if shards == 0 || shards > MAX_SHARDS {
+        return Err(OpenServiceFault::Shards);
+    }
+    if devices.len() != (shards * layout.lanes) as usize {
+        return Err(OpenServiceFault::DeviceCount);
+    }
+    if options.lease_slots == 0 {
+        return Err(OpenServiceFault::NoLeaseSlots);
+    }
+    if PAGE < 256 || PAGE > 4096 {
+        return Err(OpenServiceFault::WrongPage);
+    }
+    if is_one_too_small(layout.pages(), devices) {
+        return Err(OpenServiceFault::DeviceTooSmall);
+    }
+    Ok(())
+}
 
 // A number scaled to one below this count, without a division (Lemire 2019).
 fn scaled(number: u32, count: u32) -> u32

@@ -10,6 +10,7 @@ mod looked_up;
 mod open_service_fault;
 mod opening;
 mod seat_fault;
+mod service_options;
 
 pub use cache::ServiceCache;
 pub use cache_sizes::MAX_SHARDS;
@@ -17,3 +18,4 @@ pub use lane::SeatedLane;
 pub use looked_up::LookedUp;
 pub use open_service_fault::OpenServiceFault;
 pub use seat_fault::{SeatFault, SeatPutFault};
+pub use service_options::ServiceOptions;

@@ -1,5 +1,5 @@
 // The parts of a new cache.
-ghost use Rattle.std.specs.Prelude.{◌≡◌, ◌≤◌, ◌<◌, ◌^◌, All, IfOk, IsTrue, length};
+ghost use Rattle.std.specs.Prelude.{◌≡◌, ◌≤◌, ◌<◌, ◌^◌, ◌+◌, All, IfOk, OnOk, IsTrue, length};
 ghost use Rattle.record_pages.specs.Asked.{layout_pages};
 ghost use Rattle.record_pages.specs.Sizes.{IsPageSize};
 ghost use Rattle.service_lane.specs.Words.{words_for};
@@ -8,6 +8,7 @@ ghost use Rattle.service_cache.specs.Sorted.{AreAsSaid};
 
 use crate::guarded::Guarded;
 use crate::lane::SeatedLane;
+use crate::service_options::ServiceOptions;
 use crossbeam_utils::CachePadded;
 use deed_book::{BookName, KeyLanes, NamedBook, Register};
 use key_hash::RandomSeed;
@@ -26,8 +27,7 @@ pub(crate) type Locked<D, const PAGE: usize, L, J> = Mutex<CachePadded<Guarded<D
 pub(crate) fn lanes_over<D: PageDevice<PAGE>, const PAGE: usize, L: KeyLanes, J: BookName>(
     alloc: Global,
     layout: &Layout,
-    lease_slots: u32,
-    bring_back: u32,
+    options: &ServiceOptions,
     devices: Vec<D>,
     seed: RandomSeed,
     mut book: NamedBook<L, J>,
@@ -36,7 +36,7 @@ pub(crate) fn lanes_over<D: PageDevice<PAGE>, const PAGE: usize, L: KeyLanes, J:
     requires one_each { length devices.items ≡ L.lanes }
     requires few { length devices.items < 2 ^ 32 }
     requires page_size { IsPageSize PAGE }
-    requires slots { 1 ≤ lease_slots }
+    requires slots { 1 ≤ options.now.lease_slots }
     requires room { All (λ d. layout_pages layout.now ≤ D.page_count d) devices.items }
     requires honest { AreAsSaid L.is_honest D.honest devices.items }
     ensures { IfOk result (λ lanes. length lanes.items ≡ length devices.items) }
@@ -48,18 +48,34 @@ pub(crate) fn lanes_over<D: PageDevice<PAGE>, const PAGE: usize, L: KeyLanes, J:
         let Some(device) = devices.pop_front() else {
             unreachable!()
         };
-        let guarded = guarded_over(
-            alloc,
-            layout,
-            lease_slots,
-            bring_back,
-            device,
-            seed,
-            book.register(),
-        )?;
-        lanes.push(Mutex::new(CachePadded::new(guarded)))?;
+        let register = book.register();
+        add_lane(&mut lanes, alloc, layout, options, device, seed, register)?;
     }
     Ok(lanes)
+}
+
+// Adds what the lock of a new lane keeps, under its lock.
+fn add_lane<D: PageDevice<PAGE>, const PAGE: usize, L: KeyLanes, J: BookName>(
+    lanes: &mut Vec<Locked<D, PAGE, L, J>>,
+    alloc: Global,
+    layout: &Layout,
+    options: &ServiceOptions,
+    device: D,
+    seed: RandomSeed,
+    register: Register<L, J>,
+) -> Result<(), AllocError>
+    requires page_size { IsPageSize PAGE }
+    requires slots { 1 ≤ options.now.lease_slots }
+    requires room { layout_pages layout.now ≤ D.page_count device }
+    requires few { L.lanes < 2 ^ 32 }
+    requires honest { IsTrue (L.is_honest register.number) → IsTrue (D.honest device) }
+    ensures { OnOk result (length lanes.new.items ≡ length lanes.old.items + 1) }
+{
+    let Ok(guarded) = guarded_over(alloc, layout, options, device, seed, register) else {
+        return Err(AllocError);
+    };
+    lanes.push(Mutex::new(CachePadded::new(guarded)))?;
+    Ok(())
 }
 
 /// What the lock of a new lane keeps: an empty lane over a device, with this register, and its generator of words. The cache's seed
@@ -67,18 +83,17 @@ pub(crate) fn lanes_over<D: PageDevice<PAGE>, const PAGE: usize, L: KeyLanes, J:
 fn guarded_over<D: PageDevice<PAGE>, const PAGE: usize, L: KeyLanes, J: BookName>(
     alloc: Global,
     layout: &Layout,
-    lease_slots: u32,
-    bring_back: u32,
+    options: &ServiceOptions,
     device: D,
     seed: RandomSeed,
     register: Register<L, J>,
 ) -> Result<Guarded<D, PAGE, L, J>, AllocError>
     requires page_size { IsPageSize PAGE }
-    requires slots { 1 ≤ lease_slots }
+    requires slots { 1 ≤ options.now.lease_slots }
     requires room { layout_pages layout.now ≤ D.page_count device }
     requires few { L.lanes < 2 ^ 32 }
     requires honest { IsTrue (L.is_honest register.number) → IsTrue (D.honest device) }
-    ensures serving { IfOk result (λ guarded. IsNewLane layout.now lease_slots bring_back seed register.number
+    ensures serving { IfOk result (λ guarded. IsNewLane layout.now options.now.lease_slots options.now.bring_back seed register.number
         device guarded.lane.serving) }
     ensures register { IfOk result (λ guarded. guarded.lane.register ≡ register) }
     ensures words { IfOk result (λ guarded. guarded.words ≡ words_for seed register.number) }
@@ -89,8 +104,8 @@ fn guarded_over<D: PageDevice<PAGE>, const PAGE: usize, L: KeyLanes, J: BookName
     let lane = ServiceLane::with_layout(
         alloc,
         layout,
-        lease_slots,
-        bring_back,
+        options.lease_slots,
+        options.bring_back,
         counted,
         lane_seed,
     )?;

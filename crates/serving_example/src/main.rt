@@ -17,6 +17,7 @@ use page_device::MemoryDevice;
 use record_pages::Config;
 use rows::RowCache;
 use rriparoo::Rriparoo;
+use service_cache::ServiceOptions;
 use std::alloc::Global;
 use std::marker::Brand;
 use std::process::ExitCode;
@@ -38,8 +39,12 @@ const CONFIG: Config = Config {
 /// The pages of a lane: those of its sets and of its segments.
 const PAGES: u32 = 20;
 
-/// Slots for leases of each lane.
-const LEASE_SLOTS: u32 = 1024;
+/// One shard. No object on the device is brought back into memory.
+const OPTIONS: ServiceOptions = ServiceOptions {
+    shards: 1,
+    lease_slots: 1024,
+    bring_back: 0,
+};
 
 /// A device in memory for each lane. A service that is to keep more than memory does opens a `FileDevice` for each.
 fn devices_for(alloc: Global, lanes: u32) -> Option<Vec<MemoryDevice<256>>> {
@@ -77,16 +82,8 @@ fn made_with<L: KeyLanes + Send + Sync, J: BookName + Send + Sync, R: Threads + 
 {
     let book = book.with_name::<J>();
     let cache = RowCache::<L, J>::open(
-        alloc,
-        &CONFIG,
-        1,
-        LEASE_SLOTS,
-        devices,
-        Rriparoo,
-        seed,
-        book,
-    )
-    .ok()?;
+        alloc, &CONFIG, &OPTIONS, devices, Rriparoo, seed, book,
+    ).ok()?;
     made_by_all(rt, alloc, &cache, &Database::new())
 }
 

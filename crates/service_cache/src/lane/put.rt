@@ -146,11 +146,11 @@ fn enter_or_remove<D: PageDevice<PAGE>, const PAGE: usize, L: KeyLanes, J: BookN
     ensures removed { OnErr result (Removes D.held key.now lane.old lane.new) }
     ensures refused { OnErr result ((register.new ≡ register.old) × (seat.new ≡ seat.old)) }
 {
-    let Err(fault) = register.enter(seat, write) else {
-        return Ok(());
-    };
-    let Ok(()) = lane.remove(key) else {
-        unreachable!()
-    };
-    Err(fault)
+    match register.enter(seat, write) {
+        Ok(()) => Ok(()),
+        Err(fault) => match lane.remove(key) {
+            Ok(()) => Err(fault),
+            Err(_) => unreachable!(),
+        },
+    }
 }

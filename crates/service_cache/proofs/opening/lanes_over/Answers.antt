@@ -18,14 +18,14 @@ loop-preserved g c =
           was.said (suc place) device (ap (λ ds. slice_get ds (suc place)) c.in-Some.ensures.items ∙ at) (subst (λ n. IsTrue (g.L.KeyLanes.is_honest n)) moved told);
     }
 
-pub guarded_over-requires : goal.guarded_over-requires
-guarded_over-requires g c =
+pub add_lane-requires : goal.add_lane-requires
+add_lane-requires g c =
     let Large : g.row.D.Denot → Type 0 = λ d. layout_pages c.args.layout.now ≤ g.D.PageDevice.page_count d in
     let was = c.loop.invariant in
     let each = c.requires.one_each in
     let few = c.requires.few in
-    let counted = ap (λ r. r.number) c.register.ensures.register ∙ was.given in
-    let number : c.register.result.number ≡ 0 + c.loop.counter = omega (arith, counted) in (
+    let counted = ap (λ r. r.number) c.register-register.ensures.register ∙ was.given in
+    let number : c.register-register.result.number ≡ 0 + c.loop.counter = omega (arith, counted) in (
       omega arith,
       (
         c.requires.page_size,

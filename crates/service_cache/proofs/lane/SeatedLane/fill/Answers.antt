@@ -13,6 +13,8 @@ use Rattle.service_cache.specs.Seated.{Seated}
 use Rattle.deed_book.specs.declared.register.EntryFault.TheVariants as entries
 use Rattle.record_pages.specs.declared.put_fault.PutFault.TheVariants as puts
 use Rattle.service_cache.proofs.Answering.{is_fault, none_answered_if, refused_by, not_by_book, not_by_store, refused_not_stale, is_stale, is_large}
+use denote.Param.{param, number}
+use Rattle.service_cache.proofs.Fitting.{lane_fits}
 use Rattle.service_cache.proofs.lane.SeatedLane.fill.Goals as goal
 
 abbrev seated : {D : Type 0} → Serving D → Registered → Seated D
@@ -128,3 +130,11 @@ returns-in-Stale-clause-full g c = λ e. absurd (cc)
 
 pub returns-in-Stale-clause-large : goal.returns-in-Stale-clause-large
 returns-in-Stale-clause-large g c = λ e. absurd (cc)
+
+pub fill-requires : goal.fill-requires
+fill-requires g c = lane_fits (param 0 g.row.D) (param 1 (number g.row.PAGE)) (param 2 g.row.L) (param 3 g.row.J) g.D.PageDevice g.L.KeyLanes g.J.BookName assumption
+
+pub enter_or_remove-requires : goal.enter_or_remove-requires
+enter_or_remove-requires g c =
+    let ours = ap (λ (w : Deed). g.L.KeyLanes.lane_of w.key) c.put-put.ensures ∙ (c.requires ∙ sym (ap (λ (s : Seated g.row.D.Denot). s.register.number) c.self.view_is)) in
+    (lane_fits (param 0 g.row.D) (param 1 (number g.row.PAGE)) (param 2 g.row.L) (param 3 g.row.J) g.D.PageDevice g.L.KeyLanes g.J.BookName assumption, (ours, c.bytes.ensures.range))

@@ -9,6 +9,8 @@ use mathlib.Core.List.{IsPrefix}
 use Rattle.deed_book.specs.Registers.{Registered}
 use Rattle.service_cache.specs.declared.seat_fault.SeatFault.TheVariants as refusals
 use Rattle.service_cache.proofs.Answering.{is_fault, none_answered, none_answered_if, refused_by, get_refused}
+use denote.Param.{param, number}
+use Rattle.service_cache.proofs.Fitting.{lane_fits}
 use Rattle.service_cache.proofs.lane.SeatedLane.get.Goals as goal
 
 pub invariant_of-self-in_err-seen : goal.invariant_of-self-in_err-seen
@@ -93,3 +95,6 @@ returns-clause-gets g c = rw (← c.self.view_is) c.in_ok-seen.ensures.gets
 
 pub returns-clause-untouched : goal.returns-clause-untouched
 returns-clause-untouched g c = c.in_ok-seen.ensures.untouched
+
+pub get-requires : goal.get-requires
+get-requires g c = lane_fits (param 0 g.row.D) (param 1 (number g.row.PAGE)) (param 2 g.row.L) (param 3 g.row.J) g.D.PageDevice g.L.KeyLanes g.J.BookName assumption

@@ -4,6 +4,8 @@ use Rattle.service_lane.specs.Leases.{writes_for}
 use Rattle.service_lane.specs.Serving.{Serving}
 use Rattle.service_cache.specs.Seated.{Seated, IsSeated}
 use Rattle.deed_book.specs.Registers.{Registered}
+use denote.Param.{param, number}
+use Rattle.service_cache.proofs.Fitting.{lane_fits}
 use Rattle.service_cache.proofs.lane.SeatedLane.lease.Goals as goal
 
 abbrev seated : {D : Type 0} → Serving D → Registered → Seated D
@@ -19,3 +21,6 @@ pub returns-clause-leaves : goal.returns-clause-leaves
 returns-clause-leaves g c =
     let leaves = ap (λ (s : Serving g.row.D.Denot). seated s c.self.inside.register) c.lease.ensures.leaves in
     rw (← c.self.view_is) leaves
+
+pub lease-requires : goal.lease-requires
+lease-requires g c = lane_fits (param 0 g.row.D) (param 1 (number g.row.PAGE)) (param 2 g.row.L) (param 3 g.row.J) g.D.PageDevice g.L.KeyLanes g.J.BookName assumption

@@ -2,7 +2,7 @@ use Rattle.std.proofs.Common.{Err, ℕ, List, refl, ◌≡◌, [], ◌∷◌, �
 use Rattle.trace_file.specs.declared.act.Act.TheVariants.{Remove}
 use Rattle.certificate_checker.specs.Deeds.{Deed}
 use Rattle.deed_book.specs.Registers.{Registered, EntersIn}
-use Rattle.service_cache.specs.Seated.{IsSeated, put_of}
+use Rattle.service_cache.specs.Seated.{IsSeated, put_of, Seated}
 use Rattle.service_cache.proofs.Seating.{seated_put, seated_removed, seated_forgotten}
 use Rattle.service_cache.proofs.Refusing.{refused_put, refused_object, put_full_exactly, entered_exactly}
 use Rattle.service_lane.specs.Counting.{counts_refused_put}
@@ -10,6 +10,9 @@ use Rattle.service_lane.specs.Serving.{Serving, Removes}
 use Rattle.service_cache.specs.Refusals.{RefusesPut}
 use Rattle.service_cache.specs.declared.seat_fault.SeatPutFault.TheVariants as put_refusals
 use Rattle.service_cache.proofs.Answering.{is_fault, none_answered, none_answered_if, refused_by, object_exactly}
+use denote.Param.{param, number}
+use Rattle.service_cache.proofs.Fitting.{lane_fits}
+use Rattle.record_pages.specs.Bounded.{IsKey}
 use Rattle.service_cache.proofs.lane.SeatedLane.put.Goals as goal
 
 pub invariant_of-self : goal.invariant_of-self
@@ -102,3 +105,11 @@ returns-in_err-enter_or_remove-clause-refused g c =
     let why = c.in_err-enter_or_remove.ensures in
     let removed = subst (λ (k : List ℕ). Removes g.D.PageDevice.held k c.self.inside.lane c.enter_or_remove.new.lane) c.bytes-bytes.ensures.value why.removed in
     rw (← c.self.view_is) (refused_by c.from_residual.result (put_refusals.Book c.in_err-enter_or_remove.field-0.0) _ (is_fault c.from_residual.result (put_refusals.Book c.in_err-enter_or_remove.field-0.0) c.from_residual.ensures) (removed, why.refused.0, why.refused.1))
+
+pub put_or_remove-requires : goal.put_or_remove-requires
+put_or_remove-requires g c = lane_fits (param 0 g.row.D) (param 1 (number g.row.PAGE)) (param 2 g.row.L) (param 3 g.row.J) g.D.PageDevice g.L.KeyLanes g.J.BookName assumption
+
+pub enter_or_remove-requires : goal.enter_or_remove-requires
+enter_or_remove-requires g c =
+    let ours = ap (λ (w : Deed). g.L.KeyLanes.lane_of w.key) c.put-put.ensures ∙ (c.requires ∙ sym (ap (λ (s : Seated g.row.D.Denot). s.register.number) c.self.view_is)) in
+    (lane_fits (param 0 g.row.D) (param 1 (number g.row.PAGE)) (param 2 g.row.L) (param 3 g.row.J) g.D.PageDevice g.L.KeyLanes g.J.BookName assumption, (ours, subst IsKey (sym c.bytes-bytes.ensures.value) c.bytes-bytes.ensures.range))

@@ -9,6 +9,8 @@ use Rattle.service_cache.proofs.Refusing.{is_key, refused_key, full_exactly, rem
 use Rattle.service_lane.specs.Serving.{Serving}
 use Rattle.service_cache.specs.declared.seat_fault.SeatFault.TheVariants as refusals
 use Rattle.service_cache.proofs.Answering.{is_fault, none_answered, removal_refused, book_unasked, removal_entered, removal_stayed}
+use denote.Param.{param, number}
+use Rattle.service_cache.proofs.Fitting.{lane_fits}
 use Rattle.service_cache.proofs.lane.SeatedLane.remove.Goals as goal
 
 pub invariant_of-self-in_err-enter : goal.invariant_of-self-in_err-enter
@@ -97,3 +99,6 @@ returns-clause-entered g c =
 
 pub returns-clause-full : goal.returns-clause-full
 returns-clause-full g c = rw (← c.self.view_is) (removal_entered _ c.in_ok-enter.field-0 _ c.args.key.now _ c.in_ok-enter.ensures.full)
+
+pub remove-requires : goal.remove-requires
+remove-requires g c = lane_fits (param 0 g.row.D) (param 1 (number g.row.PAGE)) (param 2 g.row.L) (param 3 g.row.J) g.D.PageDevice g.L.KeyLanes g.J.BookName assumption

@@ -3,6 +3,8 @@ use Rattle.std.proofs.Common.{List, sym, ap, subst}
 use Rattle.certificate_checker.specs.Deeds.{Deed}
 use Rattle.service_cache.specs.Seated.{IsSeated}
 use Rattle.service_cache.proofs.Honesty.{upkeeps_deeds}
+use denote.Param.{param, number}
+use Rattle.service_cache.proofs.Fitting.{lane_fits}
 use Rattle.service_cache.proofs.lane.SeatedLane.upkeep_step.Goals as goal
 
 pub invariant_of-self : goal.invariant_of-self
@@ -25,3 +27,6 @@ returns-clause-due g c = c.upkeep_step.ensures.due
 
 pub returns-clause-register : goal.returns-clause-register
 returns-clause-register g c = ap (λ s. s.register) c.self.view_is
+
+pub upkeep_step-requires : goal.upkeep_step-requires
+upkeep_step-requires g c = lane_fits (param 0 g.row.D) (param 1 (number g.row.PAGE)) (param 2 g.row.L) (param 3 g.row.J) g.D.PageDevice g.L.KeyLanes g.J.BookName assumption
