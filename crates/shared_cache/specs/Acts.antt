@@ -100,6 +100,16 @@ module _ {D : Type 0} where
   Explains book ticket seen ClockFull = IsPastLast book ticket seen
   Explains book ticket seen OutOfMemory = Stands book ticket → length book.calls < max_calls
 
+  -- a call's point was drawn: above all that the pass had seen and above all points of the lane's calls. The former call
+  -- stands, and the book takes one more
+  pub record IsReady (book : Lane D) (ticket ticket' : Ticket) (point : ℕ) : Type 0 where
+    pub unseen : ticket.sight.seen < point
+    pub above : All (λ n. n.point < point) book.calls
+    pub seen : ticket'.sight.seen ≡ point
+    pub small : point < 2 ^ 63
+    pub stands : Stands book ticket
+    pub room : length book.calls < max_calls
+
   -- what is true of every book beside what is true of its lane: each point is a stamp
   abbrev pub IsBook : Lane D → Type 0
   IsBook book = All (λ n. n.point < 2 ^ 63) book.calls

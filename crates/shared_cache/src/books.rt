@@ -16,7 +16,7 @@ ghost use Rattle.trace_file.specs.Stored.{LiesIn, call_in};
 ghost use Rattle.shared_cache.specs.Listed.{listed_shown};
 ghost use Rattle.shared_cache.specs.Passes.{former, kept_with_end, most_bytes, with_end, IsTimely, new_ticket, most_lanes};
 ghost use Rattle.shared_cache.specs.Over.{IsOver};
-ghost use Rattle.shared_cache.specs.Acts.{Explains, IsActed, IsBook, IsFitting, IsUnacted, Stands, request_shown};
+ghost use Rattle.shared_cache.specs.Acts.{Explains, IsActed, IsBook, IsFitting, IsReady, IsUnacted, Stands, request_shown};
 ghost use Rattle.shared_cache.specs.Caches.{KeepsTie};
 
 use crate::act_answer::ActAnswer;
@@ -159,8 +159,7 @@ impl Pass {
     pub(crate) fn reserve(&mut self) -> Result<(), AllocError>
         ensures { self.new ≡ self.old }
     {
-        self.calls.reserve(1)?;
-        self.bytes.reserve(MOST_BYTES)?;
+        take_room(&mut self.calls, &mut self.bytes)?;
         Ok(())
     }
 
@@ -310,17 +309,10 @@ impl<D: PageDevice<PAGE>, const PAGE: usize> LaneBook<D, PAGE> {
             (request_shown asked.entry) self.old pass.old fault self.new pass.new) }
         ensures tie { KeepsTie pass.old pass.new }
     {
-        self.check(pass)?;
-        let position = self.recorded.len();
-        if position >= MAX_CALLS {
-            return Err(ActFault::HistoryFull);
-        }
-        let Ok(point) = pass.draw_point(clock, self.last_point()) else {
-            return Err(ActFault::ClockFull);
-        };
+        let point = self.ready(clock, pass)?;
         let lane = self.recorded.lane();
-        pass.calls.reserve(1)?;
-        pass.bytes.reserve(MOST_BYTES)?;
+        let position = self.recorded.len();
+        take_room(&mut pass.calls, &mut pass.bytes)?;
         let outcome = perform(&mut self.recorded, pass.caller, start, point, asked)?;
         let entry = keep(&mut pass.bytes, &self.recorded.at(position));
         let listed = ListedEntry {
@@ -331,6 +323,24 @@ impl<D: PageDevice<PAGE>, const PAGE: usize> LaneBook<D, PAGE> {
         };
         list(&mut pass.calls, &mut pass.former, listed);
         Ok(ActAnswer { outcome, point })
+    }
+
+    /// The point of a call, which is drawn if the pass's former call of this lane stands and the lane records one call more.
+    fn ready(&self, clock: &Clock, pass: &mut Pass) -> Result<u64, ActFault>
+        requires { pass.old.sight.clock ≡ clock.now }
+        ensures point { IfOk result (IsReady self.now pass.old pass.new) }
+        ensures refused { IfErr result (Explains self.now pass.old pass.new.sight.seen) }
+        ensures calls { pass.new.calls ≡ pass.old.calls }
+        ensures tie { KeepsTie pass.old pass.new }
+    {
+        self.check(pass)?;
+        if self.recorded.len() >= MAX_CALLS {
+            return Err(ActFault::HistoryFull);
+        }
+        match pass.draw_point(clock, self.last_point()) {
+            Ok(point) => Ok(point),
+            Err(ClockFull) => Err(ActFault::ClockFull),
+        }
     }
 
     /// Whether the pass's former call of this lane stands at its position. `HistoryLost` has a copy of what stands there
@@ -373,6 +383,18 @@ impl<D: PageDevice<PAGE>, const PAGE: usize> LaneBook<D, PAGE> {
             device: device.into_inner(),
         }
     }
+}
+
+/// Takes the room that a call more needs. `AllocError` changes nothing.
+fn take_room(calls: &mut Vec<ListedEntry>, bytes: &mut Vec<u8>) -> Result<(), AllocError>
+    ensures calls { calls.new.items ≡ calls.old.items }
+    ensures bytes { bytes.new.items ≡ bytes.old.items }
+    ensures one { OnOk result (length calls.new.items < vec_capacity calls.new) }
+    ensures most { OnOk result (length bytes.new.items + most_bytes ≤ vec_capacity bytes.new) }
+{
+    calls.reserve(1)?;
+    bytes.reserve(MOST_BYTES)?;
+    Ok(())
 }
 
 /// Keeps the bytes of a recorded call after the others, for which there is room.
