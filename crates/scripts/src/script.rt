@@ -74,28 +74,7 @@ fn open_lane<const PAGE: usize>(
     }
 }
 
-/// Answers the first line.
-fn answer_first<const PAGE: usize>(
-    alloc: Global,
-    number: u64,
-    line: &[u8],
-    lane: &mut Option<ScriptLane<PAGE>>,
-    text: &mut Vec<u8>,
-) -> Result<Turn, AllocError>
-    requires page { IsPageSize PAGE }
-    requires first { lane.old ≡ None }
-    ensures text { OnOk result (text.new.items
-        ≡ text.old.items ++ (on_config number (config_of line.now)).text) }
-    ensures turn { IfOk result (λ turn. turn ≡ (on_config number (config_of line.now)).turn) }
-    ensures lane { OnOk result (option_map seen_of lane.new ≡ (on_config number (config_of line.now)).opened) }
-{
-    match parse_config(line) {
-        Some(config) => open_lane(alloc, &config, lane, text),
-        None => append_bad_line(alloc, number, text),
-    }
-}
-
-/// Answers a line after the first.
+/// Answers a command.
 fn answer_further<const PAGE: usize, S: BuildHasher + Drop>(
     alloc: Global,
     hash_builder: S,
@@ -120,34 +99,7 @@ fn answer_further<const PAGE: usize, S: BuildHasher + Drop>(
     }
 }
 
-/// Answers a line of at most `MAX_LINE_LEN` bytes.
-fn answer_line<const PAGE: usize, S: BuildHasher + Drop>(
-    alloc: Global,
-    hash_builder: S,
-    number: u64,
-    line: &[u8],
-    lane: &mut Option<ScriptLane<PAGE>>,
-    text: &mut Vec<u8>,
-) -> Result<Turn, AllocError>
-    requires page { IsPageSize PAGE }
-    requires short { length line.now ≤ 4096 }
-    ensures text { OnOk result (text.new.items
-        ≡ text.old.items ++ (reply_to_line PAGE number (option_map seen_of lane.old) line.now).text) }
-    ensures turn { IfOk result (λ turn. turn
-        ≡ (reply_to_line PAGE number (option_map seen_of lane.old) line.now).turn) }
-    ensures lane { OnOk result (option_map seen_of lane.new
-        ≡ (reply_to_line PAGE number (option_map seen_of lane.old) line.now).opened) }
-{
-    if number > MAX_LINES {
-        return append_bad_line(alloc, number, text);
-    }
-    match lane {
-        Some(opened) => answer_further(alloc, hash_builder, number, line, opened, text),
-        None => answer_first(alloc, number, line, lane, text),
-    }
-}
-
-/// Answers what was read: a line, one that is too long, or the end.
+/// Answers what was read: the configuration, a command, a line that is too long or too late, or the end.
 fn answer_read<const PAGE: usize, S: BuildHasher + Drop>(
     alloc: Global,
     hash_builder: S,
@@ -167,7 +119,18 @@ fn answer_read<const PAGE: usize, S: BuildHasher + Drop>(
         ≡ (reply_to_read PAGE number (option_map seen_of lane.old) read line.now).opened) }
 {
     match read {
-        LineRead::Line => answer_line(alloc, hash_builder, number, line, lane, text),
+        LineRead::Line => {
+            if number > MAX_LINES {
+                return append_bad_line(alloc, number, text);
+            }
+            match lane {
+                Some(opened) => answer_further(alloc, hash_builder, number, line, opened, text),
+                None => match parse_config(line) {
+                    Some(config) => open_lane(alloc, &config, lane, text),
+                    None => append_bad_line(alloc, number, text),
+                },
+            }
+        }
         LineRead::TooLong => append_bad_line(alloc, number, text),
         LineRead::End => match lane {
             Some(_) => Ok(Turn::Ends(Scripted::Ended)),
@@ -223,15 +186,21 @@ fn make_ready<R: Read, W: Write>(
     Ok(())
 }
 
+/// Room for a line and for its reply, which serves one line after another.
+#[derive(Drop)]
+struct Buffers {
+    line: Vec<u8>,
+    text: Vec<u8>,
+}
+
 /// Takes the next line, and answers it.
 fn answer_next<const PAGE: usize, S: BuildHasher + Drop, W: Write>(
     alloc: Global,
     hash_builder: S,
     number: u64,
     ahead: &mut ReadAhead<MAX_LINE_LEN>,
-    line: &mut Vec<u8>,
     lane: &mut Option<ScriptLane<PAGE>>,
-    text: &mut Vec<u8>,
+    buffers: &mut Buffers,
     writer: &mut W,
 ) -> Result<Turn, ScriptFault>
     requires page { IsPageSize PAGE }
@@ -243,6 +212,7 @@ fn answer_next<const PAGE: usize, S: BuildHasher + Drop, W: Write>(
         → Keeps (W.contents writer.old) (W.contents writer.new)) }
     ensures err { IfErr result (λ fault. fault ≢ ScriptFault.ReadFault) }
 {
+    let Buffers { line, text } = buffers;
     let read = ahead.take_line(line)?;
     text.clear();
     let turn = answer_read(alloc, hash_builder, number, read, line, lane, text)?;
@@ -295,8 +265,10 @@ pub fn run_script_with_hasher<const PAGE: usize, S: BuildHasher + Copy, R: Read,
         (W.contents writer.old) (W.contents writer.new) fault)) }
 {
     let mut ahead: ReadAhead<MAX_LINE_LEN> = ReadAhead::new(alloc);
-    let mut line = Vec::new(alloc);
-    let mut text = Vec::new(alloc);
+    let mut buffers = Buffers {
+        line: Vec::new(alloc),
+        text: Vec::new(alloc),
+    };
     let mut lane: Option<ScriptLane<PAGE>> = None;
     let mut is_told = true;
     for number in 1..u64::MAX {
@@ -308,9 +280,8 @@ pub fn run_script_with_hasher<const PAGE: usize, S: BuildHasher + Copy, R: Read,
             hash_builder,
             number,
             &mut ahead,
-            &mut line,
             &mut lane,
-            &mut text,
+            &mut buffers,
             writer,
         ) {
             Ok(Turn::GoesOn) => is_told = false,

@@ -1,7 +1,7 @@
 use crate::scripted::Scripted;
 
 /// Whether a script goes on after a line.
-#[derive(Clone, Copy, PartialEq, Eq)]
+#[derive(Clone, Copy)]
 pub enum Turn {
     GoesOn,
     Ends(Scripted),
