@@ -2,3 +2,5 @@ mod CellLaws
 mod StoreLaws
 mod DoneLaws
 mod NumberLaws
+mod WithinLaws
+mod KeyLaws

@@ -29,3 +29,9 @@ pub returns-in-Err : goal.returns-in-Err
 returns-in-Err g c =
     let a = c.args in
     refused_cell g.row.PAGE g.D.PageDevice.held a.key.now (parts_shown a.parts) a.lane.now c.remove.new.lane {A = CellObject} c.in-Err.fault c.in-Err.ensures.large c.remove.ensures
+
+pub put_or_remove-requires : goal.put_or_remove-requires
+put_or_remove-requires g c = assumption
+
+pub remove-requires : goal.remove-requires
+remove-requires g c = assumption

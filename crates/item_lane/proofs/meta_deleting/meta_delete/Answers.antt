@@ -11,3 +11,9 @@ returns g c =
     let l = c.look-seen in
     done g.row.PAGE d.honest d.failures d.held a.key.now a.turn (meta_delete_plan a.request) a.lane.now l.new.lane c.follow.new.lane l.result l.new.found c.bytes.result.now c.bytes.ensures.value l.ensures
     c.live_item-live.result c.live_item-live.ensures.live (plan_shown c.verdict-verdict.result) c.verdict-verdict.ensures c.follow.result c.follow.ensures
+
+pub look-seen-requires : goal.look-seen-requires
+look-seen-requires g c = assumption
+
+pub follow-requires : goal.follow-requires
+follow-requires g c = assumption
