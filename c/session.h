@@ -125,8 +125,8 @@ void ks_want(const ks_session *session, const kl_seed *seed, uint32_t lanes, con
 void ks_step(ks_session *session, const ks_turn *turn, const uint8_t *bytes, size_t length, uint8_t *answer, size_t room, ks_done *to);
 
 /* A step with the lane of its key, in one hold of the lane's lock. If ks_want does not say KS_LANE of these bytes, it does nothing:
- * taken is 0. *is_due becomes 1 if upkeep of the lane is due after it, else 0. */
-void ks_lane_step(ks_session *session, kl_lane *lane, const ks_turn *turn, const uint8_t *bytes, size_t length, uint8_t *answer,
-                  size_t room, ks_done *to, uint32_t *is_due);
+ * taken is 0. Returns 1 if upkeep of the lane is due after it, else 0. */
+uint32_t ks_lane_step(ks_session *session, kl_lane *lane, const ks_turn *turn, const uint8_t *bytes, size_t length,
+                      uint8_t *answer, size_t room, ks_done *to);
 
 #endif

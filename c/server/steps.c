@@ -106,12 +106,12 @@ static void step_in_lane(step *it) {
     kangaroo_cache *cache = it->by->of->cache;
     numbers *drawn = &it->by->of->numbers;
     guarded_lane *lane = &cache->lanes[it->wanted.place.lane];
-    uint32_t is_due = 0;
+    uint32_t is_due;
     pthread_mutex_lock(&lane->lock);
     if (it->wanted.argument != 0) it->turn.cas = atomic_fetch_add(&drawn->next, 1);
     it->turn.flushed = atomic_load(&drawn->flushed);
-    ks_lane_step(&it->of->session, &lane->lane, &it->turn, it->bytes, it->length, place_of_answer(it), KS_MOST_ANSWER,
-                 &it->done, &is_due);
+    is_due = ks_lane_step(&it->of->session, &lane->lane, &it->turn, it->bytes, it->length, place_of_answer(it),
+                          KS_MOST_ANSWER, &it->done);
     if (is_due != 0) hand_over(cache, it->wanted.place.lane);
     pthread_mutex_unlock(&lane->lock);
 }

@@ -46,7 +46,7 @@ pub extern "C" fn ks_step(
     *to = step(session, turn, bytes, answer);
 }
 
-/// Takes the next step of a session with the lane of its key, and says whether upkeep is due in the lane after it: 1 or 0. Nothing is
+/// Takes the next step of a session with the lane of its key. Returns whether upkeep is due in the lane after it: 1 or 0. Nothing is
 /// taken if the step asks nothing of a lane. No answer is lost in a room of 2,448 bytes.
 #[unsafe(no_mangle)]
 pub extern "C" fn ks_lane_step(
@@ -57,8 +57,7 @@ pub extern "C" fn ks_lane_step(
     bytes: &[u8],
     answer: &mut [u8],
     to: &mut SessionDone,
-    is_due: &mut u32,
-)
+) -> u32
     requires { IsFull lane.old.lane }
     ensures steps { OnLanes
         (λ old new. SessionSteps page_laws turn.now session.old bytes.now answer.old old to.new session.new answer.new new)
@@ -67,10 +66,11 @@ pub extern "C" fn ks_lane_step(
     ensures answered { to.new.answered ≤ length answer.old }
     ensures most { to.new.answered ≤ 2448 }
     ensures whole { 2448 ≤ length answer.old → (to.new.outcome == 13) ≡ false }
-    ensures due { TellsDue is_due.new lane.new.lane }
+    ensures due { TellsDue result lane.new.lane }
 {
     let mut kept = take_lane(alloc, lane);
     *to = kept.lane.session_step(alloc, session, turn, bytes, answer);
-    *is_due = u32::from(kept.lane.is_due());
+    let is_due = u32::from(kept.lane.is_due());
     put_back(lane, kept);
+    is_due
 }

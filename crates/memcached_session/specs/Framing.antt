@@ -1,6 +1,7 @@
 -- What a server gives a command, and what is said of a lane's device.
 use Rattle.std.specs.Prelude.{ℕ, Bool, List, Option}
 use Rattle.item_lane.specs.declared.command_turn.CommandTurn.{CommandTurn}
+use Rattle.memcached_session.specs.declared.lane_turn.LaneTurn.{LaneTurn}
 use Rattle.memcached_session.specs.declared.turn.SessionTurn.{SessionTurn}
 
 -- what is said of a lane's device, and what a server gives a command: its turn, and the number that an item gets
@@ -18,3 +19,7 @@ frame_of size honest failures held turn cas = record { size = size; honest = hon
 -- the turn of a command, with its word of admission
 abbrev pub turn_of : SessionTurn → ℕ → CommandTurn
 turn_of turn word = record { moment = turn.moment; flushed = turn.flushed; word = word }
+
+-- what a step with a lane is given, by the same word
+abbrev pub lane_turn_of : SessionTurn → ℕ → LaneTurn
+lane_turn_of turn word = record { command = turn_of turn word; cas = turn.cas }

@@ -2,14 +2,14 @@
 ghost use Rattle.std.specs.Prelude.{◌≡◌, ℕ, true, false, ◌==◌, ◌≤◌, length};
 ghost use Rattle.memcached_session.specs.Stepping.{LaneSteps};
 ghost use Rattle.memcached_session.specs.Wanting.{want_of, is_keyed, draws};
-ghost use Rattle.memcached_session.specs.Framing.{frame_of, turn_of};
+ghost use Rattle.memcached_session.specs.Framing.{frame_of};
 
 use crate::done::SessionDone;
 use crate::keyed::Keyed;
+use crate::lane_turn::LaneTurn;
 use crate::performing::perform;
 use crate::session::Session;
 use crate::settling::settle;
-use crate::turn::SessionTurn;
 use itoa::Buffer;
 use page_device::PageDevice;
 use record_pages::ValueBuffer;
@@ -28,16 +28,15 @@ pub fn lane_step<D: PageDevice<PAGE>, const PAGE: usize>(
     lane: &mut ServiceLane<D, PAGE>,
     alloc: Global,
     session: &mut Session,
-    turn: &SessionTurn,
-    word: u32,
+    turn: LaneTurn,
     bytes: &[u8],
     found: &mut ValueBuffer,
     room: &mut [u8],
 ) -> SessionDone
-    ensures steps { LaneSteps (frame_of PAGE D.honest D.failures D.held (turn_of turn.now word) turn.now.cas)
+    ensures steps { LaneSteps (frame_of PAGE D.honest D.failures D.held turn.command turn.cas)
         session.old bytes.now room.old lane.old result session.new room.new lane.new }
     ensures unnumbered { draws (want_of session.old bytes.now) ≡ false → (cas : ℕ) →
-        LaneSteps (frame_of PAGE D.honest D.failures D.held (turn_of turn.now word) cas)
+        LaneSteps (frame_of PAGE D.honest D.failures D.held turn.command cas)
         session.old bytes.now room.old lane.old result session.new room.new lane.new }
     ensures taken { result.taken ≤ length bytes.now }
     ensures answered { result.answered ≤ length room.old }
@@ -50,15 +49,7 @@ pub fn lane_step<D: PageDevice<PAGE>, const PAGE: usize>(
     match Keyed::of(&step.event) {
         Some(keyed) => {
             let mut digits = Buffer::new();
-            let answered = perform(
-                lane,
-                alloc,
-                keyed,
-                turn.with_word(word),
-                turn.cas,
-                found,
-                &mut digits,
-            );
+            let answered = perform(lane, alloc, keyed, turn, found, &mut digits);
             settle(&step, reader.state, &answered, session, room)
         }
         None => SessionDone::nothing(),

@@ -14,6 +14,7 @@ ghost use Rattle.memcached_session.specs.Doing.{kept_of, condition_of, change_of
 use crate::answered::Answered;
 use crate::expiring::expires_at;
 use crate::keyed::Keyed;
+use crate::lane_turn::LaneTurn;
 use crate::meta_performing::{perform_delete, perform_delta, perform_get, perform_set};
 use crate::outcome::SessionOutcome;
 use crate::replying::{to_item, to_reply};
@@ -36,46 +37,46 @@ pub(crate) fn perform<'a, D: PageDevice<PAGE>, const PAGE: usize>(
     lane: &mut ServiceLane<D, PAGE>,
     alloc: Global,
     keyed: Keyed<'a>,
-    turn: CommandTurn,
-    cas: u64,
+    turn: LaneTurn,
     found: &'a mut ValueBuffer,
     digits: &'a mut Buffer,
 ) -> Answered<'a>
     requires key { IsKey (key_in (keyed_shown keyed)) }
     requires flags { AsksFlags (keyed_shown keyed) }
-    ensures does { DoesKeyed (frame_of PAGE D.honest D.failures D.held turn cas) (keyed_shown keyed.entry)
+    ensures does { DoesKeyed (frame_of PAGE D.honest D.failures D.held turn.command turn.cas) (keyed_shown keyed.entry)
         lane.old (said_shown result) lane.new }
     ensures fits { IsLaneAnswer (said_shown result) }
 {
     match keyed {
-        Keyed::Get { key, with_cas } => to_item(key, with_cas, get(lane, key, turn, found)),
+        Keyed::Get { key, with_cas } => to_item(key, with_cas, get(lane, key, turn.command, found)),
         Keyed::GetAndTouch {
             key,
             exptime,
             with_cas,
-        } => find_and_touch(lane, alloc, key, exptime, with_cas, turn, found),
+        } => find_and_touch(lane, alloc, key, exptime, with_cas, turn.command, found),
         Keyed::Store { request, block } => to_reply(
             request.noreply,
-            store(lane, alloc, request, block, turn, cas, found),
+            store(lane, alloc, request, block, turn, found),
         ),
         Keyed::TooLarge { key, noreply } => remove_large(lane, key, noreply),
         Keyed::Delete { key, noreply } => {
-            to_reply(noreply, Ok(delete(lane, key, None, turn, found)))
+            to_reply(noreply, Ok(delete(lane, key, None, turn.command, found)))
         }
-        Keyed::Delta(delta) => to_reply(delta.noreply, count(lane, alloc, delta, turn, cas, found)),
+        Keyed::Delta(delta) => to_reply(delta.noreply, count(lane, alloc, delta, turn, found)),
         Keyed::Touch {
             key,
             exptime,
             noreply,
-        } => to_reply(noreply, touch_key(lane, alloc, key, exptime, turn, found)),
-        Keyed::MetaGet(request) => perform_get(lane, alloc, request, turn, cas, found),
+        } => to_reply(
+            noreply,
+            touch_key(lane, alloc, key, exptime, turn.command, found),
+        ),
+        Keyed::MetaGet(request) => perform_get(lane, alloc, request, turn, found),
         Keyed::MetaSet { request, block } => {
-            perform_set(lane, alloc, request, block, turn, cas, found)
+            perform_set(lane, alloc, request, block, turn, found)
         }
-        Keyed::MetaDelete(request) => perform_delete(lane, alloc, request, turn, cas, found),
-        Keyed::MetaDelta(request) => {
-            perform_delta(lane, alloc, request, turn, cas, found, digits)
-        }
+        Keyed::MetaDelete(request) => perform_delete(lane, alloc, request, turn, found),
+        Keyed::MetaDelta(request) => { perform_delta(lane, alloc, request, turn, found, digits) }
     }
 }
 
@@ -105,19 +106,26 @@ fn store<D: PageDevice<PAGE>, const PAGE: usize>(
     alloc: Global,
     request: StoreRequest<'_>,
     block: &[u8],
-    turn: CommandTurn,
-    cas: u64,
+    turn: LaneTurn,
     found: &mut ValueBuffer,
 ) -> Result<CommandReply, PutFault>
     requires { IsKey request.key.now }
-    ensures { StoresBy (frame_of PAGE D.honest D.failures D.held turn cas) request.entry.key.now
-        (kept_of turn.moment cas (storing_shown request.entry) block.now)
+    ensures { StoresBy (frame_of PAGE D.honest D.failures D.held turn.command turn.cas) request.entry.key.now
+        (kept_of turn.command.moment turn.cas (storing_shown request.entry) block.now)
         (condition_of request.entry.mode request.entry.cas) lane.old result lane.new }
 {
-    let item = item_of(request, block, turn.moment, cas);
+    let item = item_of(request, block, turn.command.moment, turn.cas);
     match condition_of(request.mode, request.cas) {
-        None => set(lane, alloc, request.key, item, turn),
-        Some(condition) => store_if(lane, alloc, request.key, condition, item, turn, found),
+        None => set(lane, alloc, request.key, item, turn.command),
+        Some(condition) => store_if(
+            lane,
+            alloc,
+            request.key,
+            condition,
+            item,
+            turn.command,
+            found,
+        ),
     }
 }
 
@@ -155,16 +163,15 @@ fn count<D: PageDevice<PAGE>, const PAGE: usize>(
     lane: &mut ServiceLane<D, PAGE>,
     alloc: Global,
     request: DeltaRequest<'_>,
-    turn: CommandTurn,
-    cas: u64,
+    turn: LaneTurn,
     found: &mut ValueBuffer,
 ) -> Result<CommandReply, PutFault>
     requires { IsKey request.key.now }
-    ensures { Does PAGE D.honest D.failures D.held request.entry.key.now turn
-        (delta_plan (delta_of cas (delta_shown request.entry))) lane.old result lane.new }
+    ensures { Does PAGE D.honest D.failures D.held request.entry.key.now turn.command
+        (delta_plan (delta_of turn.cas (delta_shown request.entry))) lane.old result lane.new }
 {
-    let delta = delta_of(request, cas);
-    change_number(lane, alloc, request.key, delta, turn, found)
+    let delta = delta_of(request, turn.cas);
+    change_number(lane, alloc, request.key, delta, turn.command, found)
 }
 
 // Gives a key's live item another expiry.

@@ -18,19 +18,24 @@ pub struct SessionTurn {
 }
 
 ghost use Rattle.std.specs.Prelude.{◌≡◌};
-ghost use Rattle.memcached_session.specs.Framing.{turn_of};
+ghost use Rattle.memcached_session.specs.Framing.{lane_turn_of};
 
+use crate::lane_turn::LaneTurn;
 use item_lane::CommandTurn;
 
 impl SessionTurn {
-    /// The turn of a command, with its word of admission.
-    pub(crate) fn with_word(&self, word: u32) -> CommandTurn
-        ensures { result ≡ turn_of self.now word }
+    /// The same for a step with a lane, with its word of admission.
+    pub fn with_word(&self, word: u32) -> LaneTurn
+        ensures { result ≡ lane_turn_of self.now word }
     {
-        CommandTurn {
+        let command = CommandTurn {
             moment: self.moment,
             flushed: self.flushed,
             word,
+        };
+        LaneTurn {
+            command,
+            cas: self.cas,
         }
     }
 }

@@ -1,10 +1,8 @@
 -- A step with a lane does what is asked of the lane, and takes a byte or more.
 use Rattle.std.proofs.Common.{ℕ, ◌≤◌, ◌∙◌, ap, sym, subst}
-use Rattle.item_lane.specs.declared.command_turn.CommandTurn.{CommandTurn}
 use Rattle.memcached_text.specs.declared.request_reader.RequestReader.{RequestReader}
 use Rattle.memcached_text.specs.Steps.{outcome, event_shown, step_of}
-use Rattle.memcached_session.specs.Doing.{DoesKeyed}
-use Rattle.memcached_session.specs.Framing.{frame_of, turn_of}
+use Rattle.memcached_session.specs.Framing.{frame_of}
 use Rattle.memcached_session.specs.Keyed.{keyed_shown}
 use Rattle.memcached_session.specs.Saying.{said_shown}
 use Rattle.memcached_session.specs.Standing.{state_of}
@@ -19,18 +17,15 @@ returns-in-Some-clause-steps g c =
     let a = c.args in
     let step = c.take-step in
     let exact = step.ensures.exact ∙ ap (λ (r : RequestReader). step_of r.max_data_len r.state a.bytes.now) c.reader-reader.ensures in
-    let does = subst
-    (λ (t : CommandTurn). DoesKeyed (frame_of g.row.PAGE d.honest d.failures d.held t a.turn.now.cas) (keyed_shown c.in-Some.keyed) a.lane.now (said_shown c.perform-answered.result) c.perform-answered.new.lane)
-    c.with_word.ensures c.perform-answered.ensures.does in
-    steps_made (frame_of g.row.PAGE d.honest d.failures d.held (turn_of a.turn.now a.word) a.turn.now.cas) a.session.now a.bytes.now a.room.now a.lane.now c.settle.result c.settle.new.session c.settle.new.room c.perform-answered.new.lane
+    steps_made (frame_of g.row.PAGE d.honest d.failures d.held a.turn.command a.turn.cas) a.session.now a.bytes.now a.room.now a.lane.now c.settle.result c.settle.new.session c.settle.new.room c.perform-answered.new.lane
     (outcome step.result.taken (event_shown step.result.event) step.new.self.state) (keyed_shown c.in-Some.keyed) exact c.in-Some.ensures.exact
-    (record { said = said_shown c.perform-answered.result; does_it = does; settles = c.settle.ensures.settles })
+    (record { said = said_shown c.perform-answered.result; does_it = c.perform-answered.ensures.does; settles = c.settle.ensures.settles })
 
 pub returns-in-Some-clause-unnumbered : goal.returns-in-Some-clause-unnumbered
 returns-in-Some-clause-unnumbered g c = λ none cas.
     let d = g.D.PageDevice in
     let a = c.args in
-    unnumbered g.row.PAGE d.honest d.failures d.held (turn_of a.turn.now a.word) a.turn.now.cas cas a.session.now a.bytes.now a.room.now a.lane.now c.settle.result c.settle.new.session c.settle.new.room c.perform-answered.new.lane none (returns-in-Some-clause-steps g c)
+    unnumbered g.row.PAGE d.honest d.failures d.held a.turn.command a.turn.cas cas a.session.now a.bytes.now a.room.now a.lane.now c.settle.result c.settle.new.session c.settle.new.room c.perform-answered.new.lane none (returns-in-Some-clause-steps g c)
 
 pub returns-in-Some-clause-some : goal.returns-in-Some-clause-some
 returns-in-Some-clause-some g c = λ keyed.

@@ -19,7 +19,7 @@ returns-clause-does g c =
     record {
       result = t.result;
       does_it =
-          subst (λ (q : MetaDelete). Does g.row.PAGE d.honest d.failures d.held a.request.key.now a.turn (meta_delete_plan q) a.lane.now t.result t.new.lane) m.ensures t.ensures;
+          subst (λ (q : MetaDelete). Does g.row.PAGE d.honest d.failures d.held a.request.key.now a.turn.command (meta_delete_plan q) a.lane.now t.result t.new.lane) m.ensures t.ensures;
       says = record {
         text = subst (λ (x : MetaSaid). IsTextOf (meta_shown a.request) x ((said_shown c.answered.result).text)) c.to_delete.ensures c.answered.ensures.text;
         outcome_is = c.answered.ensures.outcome ∙ c.outcome.ensures.value;

@@ -20,11 +20,11 @@ returns-clause-does g c =
       item = t.result.item;
       result = t.result.reply;
       does_it =
-          subst (λ (q : MetaDelta). DoesAndGives g.row.PAGE d.honest d.failures d.held a.request.key.now a.turn (meta_delta_plan q) a.lane.now t.result.item t.result.reply t.new.lane) m.ensures t.ensures;
+          subst (λ (q : MetaDelta). DoesAndGives g.row.PAGE d.honest d.failures d.held a.request.key.now a.turn.command (meta_delta_plan q) a.lane.now t.result.item t.result.reply t.new.lane) m.ensures t.ensures;
       says = record {
         text =
             subst
-            (λ (q : MetaDelta). IsTextOf (meta_shown a.request) (delta_said a.turn.moment a.request.flags.now q (option_map kept_shown t.result.item) t.result.reply) ((said_shown c.answered.result).text))
+            (λ (q : MetaDelta). IsTextOf (meta_shown a.request) (delta_said a.turn.command.moment a.request.flags.now q (option_map kept_shown t.result.item) t.result.reply) ((said_shown c.answered.result).text))
             m.ensures
             (subst (λ (x : MetaSaid). IsTextOf (meta_shown a.request) x ((said_shown c.answered.result).text)) c.to_delta.ensures.said c.answered.ensures.text);
         outcome_is = c.answered.ensures.outcome ∙ c.outcome_of_item-outcome.ensures.value;

@@ -22,11 +22,11 @@ returns-clause-does g c =
       item = t.result.item;
       result = t.result.reply;
       does_it =
-          subst (λ (q : MetaGet). DoesAndGives g.row.PAGE d.honest d.failures d.held a.request.key.now a.turn (meta_get_plan q) a.lane.now t.result.item t.result.reply t.new.lane) m.ensures t.ensures.does;
+          subst (λ (q : MetaGet). DoesAndGives g.row.PAGE d.honest d.failures d.held a.request.key.now a.turn.command (meta_get_plan q) a.lane.now t.result.item t.result.reply t.new.lane) m.ensures t.ensures.does;
       says = record {
         text =
             subst
-            (λ (q : MetaGet). IsTextOf (meta_shown a.request) (get_said a.turn.moment a.request.flags.now q (option_map kept_shown t.result.item) t.result.reply) ((said_shown c.answered.result).text))
+            (λ (q : MetaGet). IsTextOf (meta_shown a.request) (get_said a.turn.command.moment a.request.flags.now q (option_map kept_shown t.result.item) t.result.reply) ((said_shown c.answered.result).text))
             m.ensures
             (subst (λ (x : MetaSaid). IsTextOf (meta_shown a.request) x ((said_shown c.answered.result).text)) c.to_get.ensures c.answered.ensures.text);
         outcome_is = c.answered.ensures.outcome ∙ c.outcome_of_item-outcome.ensures.value;
@@ -37,7 +37,7 @@ pub answered-requires-clause-within : goal.answered-requires-clause-within
 answered-requires-clause-within g c =
     let a = c.args in
     let t = c.meta_get-done in
-    subst IsSaidWithin (sym c.to_get.ensures) (get_within a.turn.moment a.request.flags.now c.meta_get_in-asked.result (option_map kept_shown t.result.item) t.result.reply (item_short t.result.item t.ensures.within))
+    subst IsSaidWithin (sym c.to_get.ensures) (get_within a.turn.command.moment a.request.flags.now c.meta_get_in-asked.result (option_map kept_shown t.result.item) t.result.reply (item_short t.result.item t.ensures.within))
 
 pub meta_get-done-requires : goal.meta_get-done-requires
 meta_get-done-requires g c = assumption

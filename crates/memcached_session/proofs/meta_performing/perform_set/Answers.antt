@@ -23,10 +23,10 @@ returns-clause-does g c =
       result = t.result;
       does_it =
           subst
-          (λ (k : Kept). SetsAs g.row.PAGE d.honest d.failures d.held a.request.key.now a.turn (condition_of (meta_set_in a.request.flags.now).mode (meta_set_in a.request.flags.now).compare (meta_set_in a.request.flags.now).invalidates) k a.lane.now t.result t.new.lane)
+          (λ (k : Kept). SetsAs g.row.PAGE d.honest d.failures d.held a.request.key.now a.turn.command (condition_of (meta_set_in a.request.flags.now).mode (meta_set_in a.request.flags.now).compare (meta_set_in a.request.flags.now).invalidates) k a.lane.now t.result t.new.lane)
           i.ensures
           (subst
-          (λ (q : MetaSet). SetsAs g.row.PAGE d.honest d.failures d.held a.request.key.now a.turn (condition_of q.mode q.compare q.invalidates) (kept_shown i.result) a.lane.now t.result t.new.lane)
+          (λ (q : MetaSet). SetsAs g.row.PAGE d.honest d.failures d.held a.request.key.now a.turn.command (condition_of q.mode q.compare q.invalidates) (kept_shown i.result) a.lane.now t.result t.new.lane)
           m.ensures t.ensures);
       says = record {
         text = subst (λ (x : MetaSaid). IsTextOf (meta_shown a.request) x ((said_shown c.answered.result).text)) c.to_set.ensures c.answered.ensures.text;
@@ -35,7 +35,7 @@ returns-clause-does g c =
     }
 
 pub answered-requires-clause-within : goal.answered-requires-clause-within
-answered-requires-clause-within g c = subst IsSaidWithin (sym c.to_set.ensures) (set_within c.args.cas c.args.request.flags.now c.meta_set-reply.result)
+answered-requires-clause-within g c = subst IsSaidWithin (sym c.to_set.ensures) (set_within c.args.turn.cas c.args.request.flags.now c.meta_set-reply.result)
 
 pub meta_set-reply-requires : goal.meta_set-reply-requires
 meta_set-reply-requires g c = assumption

@@ -26,7 +26,7 @@ pub returns-in-Get-clause-does : goal.returns-in-Get-clause-does
 returns-in-Get-clause-does g c =
     let d = g.D.PageDevice in
     let a = c.args in
-    as_asked (frame_of g.row.PAGE d.honest d.failures d.held a.turn a.cas) a.lane.now (said_shown c.to_item.result) c.get.new.lane a.keyed _ c.in-Get.is
+    as_asked (frame_of g.row.PAGE d.honest d.failures d.held a.turn.command a.turn.cas) a.lane.now (said_shown c.to_item.result) c.get.new.lane a.keyed _ c.in-Get.is
     (record { item = c.get.result; looks = c.get.ensures.looks; said_is = c.to_item.ensures.said })
 
 pub returns-in-Get-clause-fits : goal.returns-in-Get-clause-fits
@@ -36,8 +36,8 @@ pub returns-in-GetAndTouch-clause-does : goal.returns-in-GetAndTouch-clause-does
 returns-in-GetAndTouch-clause-does g c =
     let d = g.D.PageDevice in
     let a = c.args in
-    as_asked (frame_of g.row.PAGE d.honest d.failures d.held a.turn a.cas) a.lane.now (said_shown c.find_and_touch.result) c.find_and_touch.new.lane a.keyed _ c.in-GetAndTouch.is
-    (c.find_and_touch.ensures.does c.args.cas)
+    as_asked (frame_of g.row.PAGE d.honest d.failures d.held a.turn.command a.turn.cas) a.lane.now (said_shown c.find_and_touch.result) c.find_and_touch.new.lane a.keyed _ c.in-GetAndTouch.is
+    (c.find_and_touch.ensures.does a.turn.cas)
 
 pub returns-in-GetAndTouch-clause-fits : goal.returns-in-GetAndTouch-clause-fits
 returns-in-GetAndTouch-clause-fits g c = c.find_and_touch.ensures.fits
@@ -46,7 +46,7 @@ pub returns-in-Store-clause-does : goal.returns-in-Store-clause-does
 returns-in-Store-clause-does g c =
     let d = g.D.PageDevice in
     let a = c.args in
-    as_asked (frame_of g.row.PAGE d.honest d.failures d.held a.turn a.cas) a.lane.now (said_shown c.to_reply.result) c.store.new.lane a.keyed _ c.in-Store.is
+    as_asked (frame_of g.row.PAGE d.honest d.failures d.held a.turn.command a.turn.cas) a.lane.now (said_shown c.to_reply.result) c.store.new.lane a.keyed _ c.in-Store.is
     (record { result = c.store.result; does_it = c.store.ensures; said_is = c.to_reply.ensures.said })
 
 pub returns-in-Store-clause-fits : goal.returns-in-Store-clause-fits
@@ -56,7 +56,7 @@ pub returns-in-TooLarge-clause-does : goal.returns-in-TooLarge-clause-does
 returns-in-TooLarge-clause-does g c =
     let d = g.D.PageDevice in
     let a = c.args in
-    as_asked (frame_of g.row.PAGE d.honest d.failures d.held a.turn a.cas) a.lane.now (said_shown c.remove_large.result) c.remove_large.new.lane a.keyed _ c.in-TooLarge.is
+    as_asked (frame_of g.row.PAGE d.honest d.failures d.held a.turn.command a.turn.cas) a.lane.now (said_shown c.remove_large.result) c.remove_large.new.lane a.keyed _ c.in-TooLarge.is
     (c.remove_large.ensures.does)
 
 pub returns-in-TooLarge-clause-fits : goal.returns-in-TooLarge-clause-fits
@@ -66,7 +66,7 @@ pub returns-in-Delete-clause-does : goal.returns-in-Delete-clause-does
 returns-in-Delete-clause-does g c =
     let d = g.D.PageDevice in
     let a = c.args in
-    as_asked (frame_of g.row.PAGE d.honest d.failures d.held a.turn a.cas) a.lane.now (said_shown c.to_reply-in-Delete.result) c.delete.new.lane a.keyed _ c.in-Delete.is
+    as_asked (frame_of g.row.PAGE d.honest d.failures d.held a.turn.command a.turn.cas) a.lane.now (said_shown c.to_reply-in-Delete.result) c.delete.new.lane a.keyed _ c.in-Delete.is
     (record { result = Ok c.delete.result; does_it = c.delete.ensures; said_is = c.to_reply-in-Delete.ensures.said })
 
 pub returns-in-Delete-clause-fits : goal.returns-in-Delete-clause-fits
@@ -76,7 +76,7 @@ pub returns-in-Delta-clause-does : goal.returns-in-Delta-clause-does
 returns-in-Delta-clause-does g c =
     let d = g.D.PageDevice in
     let a = c.args in
-    as_asked (frame_of g.row.PAGE d.honest d.failures d.held a.turn a.cas) a.lane.now (said_shown c.to_reply-in-Delta.result) c.count.new.lane a.keyed _ c.in-Delta.is
+    as_asked (frame_of g.row.PAGE d.honest d.failures d.held a.turn.command a.turn.cas) a.lane.now (said_shown c.to_reply-in-Delta.result) c.count.new.lane a.keyed _ c.in-Delta.is
     (record { result = c.count.result; does_it = c.count.ensures; said_is = c.to_reply-in-Delta.ensures.said })
 
 pub returns-in-Delta-clause-fits : goal.returns-in-Delta-clause-fits
@@ -86,7 +86,7 @@ pub returns-in-Touch-clause-does : goal.returns-in-Touch-clause-does
 returns-in-Touch-clause-does g c =
     let d = g.D.PageDevice in
     let a = c.args in
-    as_asked (frame_of g.row.PAGE d.honest d.failures d.held a.turn a.cas) a.lane.now (said_shown c.to_reply-in-Touch.result) c.touch_key.new.lane a.keyed _ c.in-Touch.is
+    as_asked (frame_of g.row.PAGE d.honest d.failures d.held a.turn.command a.turn.cas) a.lane.now (said_shown c.to_reply-in-Touch.result) c.touch_key.new.lane a.keyed _ c.in-Touch.is
     (record { result = c.touch_key.result; does_it = c.touch_key.ensures; said_is = c.to_reply-in-Touch.ensures.said })
 
 pub returns-in-Touch-clause-fits : goal.returns-in-Touch-clause-fits
@@ -96,7 +96,7 @@ pub returns-in-MetaGet-clause-does : goal.returns-in-MetaGet-clause-does
 returns-in-MetaGet-clause-does g c =
     let d = g.D.PageDevice in
     let a = c.args in
-    as_asked (frame_of g.row.PAGE d.honest d.failures d.held a.turn a.cas) a.lane.now (said_shown c.perform_get.result) c.perform_get.new.lane a.keyed _ c.in-MetaGet.is
+    as_asked (frame_of g.row.PAGE d.honest d.failures d.held a.turn.command a.turn.cas) a.lane.now (said_shown c.perform_get.result) c.perform_get.new.lane a.keyed _ c.in-MetaGet.is
     (c.perform_get.ensures.does)
 
 pub returns-in-MetaGet-clause-fits : goal.returns-in-MetaGet-clause-fits
@@ -106,7 +106,7 @@ pub returns-in-MetaSet-clause-does : goal.returns-in-MetaSet-clause-does
 returns-in-MetaSet-clause-does g c =
     let d = g.D.PageDevice in
     let a = c.args in
-    as_asked (frame_of g.row.PAGE d.honest d.failures d.held a.turn a.cas) a.lane.now (said_shown c.perform_set.result) c.perform_set.new.lane a.keyed _ c.in-MetaSet.is
+    as_asked (frame_of g.row.PAGE d.honest d.failures d.held a.turn.command a.turn.cas) a.lane.now (said_shown c.perform_set.result) c.perform_set.new.lane a.keyed _ c.in-MetaSet.is
     (c.perform_set.ensures.does)
 
 pub returns-in-MetaSet-clause-fits : goal.returns-in-MetaSet-clause-fits
@@ -116,7 +116,7 @@ pub returns-in-MetaDelete-clause-does : goal.returns-in-MetaDelete-clause-does
 returns-in-MetaDelete-clause-does g c =
     let d = g.D.PageDevice in
     let a = c.args in
-    as_asked (frame_of g.row.PAGE d.honest d.failures d.held a.turn a.cas) a.lane.now (said_shown c.perform_delete.result) c.perform_delete.new.lane a.keyed _ c.in-MetaDelete.is
+    as_asked (frame_of g.row.PAGE d.honest d.failures d.held a.turn.command a.turn.cas) a.lane.now (said_shown c.perform_delete.result) c.perform_delete.new.lane a.keyed _ c.in-MetaDelete.is
     (c.perform_delete.ensures.does)
 
 pub returns-in-MetaDelete-clause-fits : goal.returns-in-MetaDelete-clause-fits
@@ -126,7 +126,7 @@ pub returns-in-MetaDelta-clause-does : goal.returns-in-MetaDelta-clause-does
 returns-in-MetaDelta-clause-does g c =
     let d = g.D.PageDevice in
     let a = c.args in
-    as_asked (frame_of g.row.PAGE d.honest d.failures d.held a.turn a.cas) a.lane.now (said_shown c.perform_delta.result) c.perform_delta.new.lane a.keyed _ c.in-MetaDelta.is
+    as_asked (frame_of g.row.PAGE d.honest d.failures d.held a.turn.command a.turn.cas) a.lane.now (said_shown c.perform_delta.result) c.perform_delta.new.lane a.keyed _ c.in-MetaDelta.is
     (c.perform_delta.ensures.does)
 
 pub returns-in-MetaDelta-clause-fits : goal.returns-in-MetaDelta-clause-fits

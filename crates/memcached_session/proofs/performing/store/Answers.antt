@@ -13,10 +13,10 @@ returns-in-Some g c =
     let a = c.args in
     let s = c.store_if in
     subst
-    (λ (o : Option Condition). StoresBy (frame_of g.row.PAGE d.honest d.failures d.held a.turn a.cas) a.request.key.now (kept_of a.turn.moment a.cas (storing_shown a.request) a.block.now) o a.lane.now s.result s.new.lane)
+    (λ (o : Option Condition). StoresBy (frame_of g.row.PAGE d.honest d.failures d.held a.turn.command a.turn.cas) a.request.key.now (kept_of a.turn.command.moment a.turn.cas (storing_shown a.request) a.block.now) o a.lane.now s.result s.new.lane)
     c.in-Some.ensures
     (subst
-    (λ (k : Kept). StoresBy (frame_of g.row.PAGE d.honest d.failures d.held a.turn a.cas) a.request.key.now k (Some c.in-Some.condition) a.lane.now s.result s.new.lane)
+    (λ (k : Kept). StoresBy (frame_of g.row.PAGE d.honest d.failures d.held a.turn.command a.turn.cas) a.request.key.now k (Some c.in-Some.condition) a.lane.now s.result s.new.lane)
     c.item_of-item.ensures s.ensures)
 
 pub set-requires : goal.set-requires
