@@ -13,7 +13,7 @@ pub const LANE_COUNTERS: usize = 34;
 /// `segments_now`, and then `copy_hits`, `brought_back` and `pushed_copies`. Each counts since the lane was opened, modulo 2^64; the three up to
 /// `segments_now` are of the present.
 #[repr(C)]
-#[derive(Clone, Copy, PartialEq, Eq)]
+#[derive(Clone, Copy)]
 pub struct Counters {
     /// The numbers.
     pub numbers: [u64; LANE_COUNTERS],

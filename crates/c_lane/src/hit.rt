@@ -6,7 +6,7 @@ use record_pages::Tier;
 
 /// What a get tells of its hit; all zeros if there is none.
 #[repr(C)]
-#[derive(Clone, Copy, PartialEq, Eq)]
+#[derive(Clone, Copy)]
 pub struct Hit {
     /// Bytes of the value.
     pub length: u64,

@@ -7,7 +7,7 @@ use service_lane::hash_by;
 
 /// Where a key is.
 #[repr(C)]
-#[derive(Clone, Copy, PartialEq, Eq)]
+#[derive(Clone, Copy)]
 pub struct KeyPlace {
     /// The number of its lane.
     pub lane: u32,

@@ -7,7 +7,7 @@ use record_pages::{Config, Field, Layout};
 
 /// The shape of a cache, the two numbers that say what enters and leaves its log, and the one that says what comes back into memory.
 #[repr(C)]
-#[derive(Clone, Copy, PartialEq, Eq)]
+#[derive(Clone, Copy)]
 pub struct LaneShape {
     /// Groups of lanes, 1 to 1,024.
     pub shards: u32,

@@ -7,7 +7,7 @@ use key_hash::RandomSeed;
 /// 16 bytes that were drawn at random. Who does not know them can't pick keys beforehand for one lane, or that collide in its
 /// tables.
 #[repr(C)]
-#[derive(Clone, Copy, PartialEq, Eq)]
+#[derive(Clone, Copy)]
 pub struct Seed {
     /// The first eight of them.
     pub first: u64,

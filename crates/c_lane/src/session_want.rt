@@ -9,7 +9,7 @@ use memcached_session::{Need, Session, Want, what_is_wanted};
 
 /// What the next step of a session needs, in the numbers of `c/session.h`.
 #[repr(C)]
-#[derive(Clone, Copy, PartialEq, Eq)]
+#[derive(Clone, Copy)]
 pub struct SessionWanted {
     /// 0 more bytes, 1 nothing, 2 a lane, 3 a flush, 4 stats, 5 that the server says more or less, 6 its end, 7 that the client is closed.
     pub wants: u32,

@@ -5,7 +5,7 @@ ghost use Rattle.c_lane.specs.Shapes.{number_of_field};
 use record_pages::Field;
 
 /// A field of `LaneShape`.
-#[derive(Clone, Copy, PartialEq, Eq)]
+#[derive(Clone, Copy)]
 pub enum ShapeField {
     Shards,
     /// A field that a configuration has too.

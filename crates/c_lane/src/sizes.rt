@@ -7,7 +7,7 @@ use cache_sizes::{Shape, SizeFault};
 
 /// What a cache of a shape takes and holds. Bytes of memory are estimates.
 #[repr(C)]
-#[derive(Clone, Copy, PartialEq, Eq)]
+#[derive(Clone, Copy)]
 pub struct Sizes {
     /// Bytes of all files.
     pub file_bytes: u64,

@@ -6,7 +6,7 @@ use service_lane::{UpkeepStep, Upkept};
 
 /// What a step of upkeep did, and what it leaves to be done.
 #[repr(C)]
-#[derive(Clone, Copy, PartialEq, Eq)]
+#[derive(Clone, Copy)]
 pub struct Step {
     /// 0 nothing was due, 1 a page of the log was to be written, 2 records were to move, 3 they were and memory was refused.
     pub did: u32,

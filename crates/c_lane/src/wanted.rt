@@ -6,7 +6,7 @@ use cache_sizes::{Shape, SizeFault, Wanted};
 
 /// What a user knows of a cache that is wanted.
 #[repr(C)]
-#[derive(Clone, Copy, PartialEq, Eq)]
+#[derive(Clone, Copy)]
 pub struct WantedSizes {
     /// Bytes of flash, at most.
     pub flash_bytes: u64,

@@ -3,7 +3,7 @@ ghost use Rattle.std.specs.Prelude.{◌≡◌, ◌≤◌, ◌<◌, ◌^◌, ◌=
 ghost use Rattle.item_lane.specs.Numbers.{are_digits, value_of, number_of, digits_end, are_spaces, number_in, changed};
 
 /// A change of a number.
-#[derive(Clone, Copy, PartialEq, Eq)]
+#[derive(Clone, Copy)]
 pub enum Change {
     /// This much is added, modulo 2^64.
     Increment(u64),

@@ -3,7 +3,7 @@
 use crate::item_marks::ItemMarks;
 
 /// What a command replies, as the protocol has it.
-#[derive(Clone, Copy, PartialEq, Eq)]
+#[derive(Clone, Copy)]
 pub enum CommandReply {
     /// The item was stored.
     Stored,

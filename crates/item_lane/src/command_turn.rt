@@ -1,7 +1,7 @@
 // What a server gives a command.
 
 /// What a server gives a command beside the request.
-#[derive(Clone, Copy, PartialEq, Eq)]
+#[derive(Clone, Copy)]
 pub struct CommandTurn {
     /// The moment, in seconds. It is the caller's, and may go backwards.
     pub moment: u64,

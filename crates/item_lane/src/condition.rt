@@ -11,7 +11,7 @@ use crate::command_verdict::{CommandVerdict, ItemParts};
 use crate::head::Head;
 
 /// How a store depends on the live item of its key.
-#[derive(Clone, Copy, PartialEq, Eq)]
+#[derive(Clone, Copy)]
 pub enum StoreMode {
     /// Stores only if there is none.
     Add,
@@ -27,7 +27,7 @@ pub enum StoreMode {
 }
 
 /// When a store is made. The command `cas` is `Replace` with a number to compare.
-#[derive(Clone, Copy, PartialEq, Eq)]
+#[derive(Clone, Copy)]
 pub struct Condition {
     /// How it depends on the live item.
     pub mode: StoreMode,

@@ -22,7 +22,7 @@ use service_lane::ServiceLane;
 use std::alloc::Global;
 
 /// A change of the number that an item holds.
-#[derive(Clone, Copy, PartialEq, Eq)]
+#[derive(Clone, Copy)]
 pub struct Delta {
     /// What the number becomes.
     pub change: Change,

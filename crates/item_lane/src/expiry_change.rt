@@ -7,7 +7,7 @@ use crate::cache_item::CacheItem;
 use crate::head::Head;
 
 /// What a command does to the expiry of an item: the flag `T` of the meta commands.
-#[derive(Clone, Copy, PartialEq, Eq)]
+#[derive(Clone, Copy)]
 pub enum ExpiryChange {
     /// It stays.
     Stays,

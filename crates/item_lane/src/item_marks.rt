@@ -1,7 +1,7 @@
 // What is told of an item that a client did not ask for.
 
 /// What a meta get tells of an item, unasked.
-#[derive(Clone, Copy, PartialEq, Eq)]
+#[derive(Clone, Copy)]
 pub struct ItemMarks {
     /// `Z`: another client was told to refresh the item.
     pub is_awaited: bool,

@@ -26,7 +26,7 @@ use service_lane::ServiceLane;
 use std::alloc::Global;
 
 /// A change of the number that an item holds, and what a miss stores.
-#[derive(Clone, Copy, PartialEq, Eq)]
+#[derive(Clone, Copy)]
 pub struct MetaDelta {
     /// `M` and `D`: what the number becomes.
     pub change: Change,
@@ -41,7 +41,7 @@ pub struct MetaDelta {
 }
 
 /// The number that a miss stores.
-#[derive(Clone, Copy, PartialEq, Eq)]
+#[derive(Clone, Copy)]
 pub struct InitialNumber {
     /// `J`: the number.
     pub number: u64,

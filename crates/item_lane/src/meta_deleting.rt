@@ -22,7 +22,7 @@ use service_lane::ServiceLane;
 use std::alloc::Global;
 
 /// What a meta delete does.
-#[derive(Clone, Copy, PartialEq, Eq)]
+#[derive(Clone, Copy)]
 pub struct MetaDelete {
     /// `C`: the cas unique that the live item must have, if one is asked for.
     pub compare: Option<u64>,
@@ -31,7 +31,7 @@ pub struct MetaDelete {
 }
 
 /// How an item is marked as stale.
-#[derive(Clone, Copy, PartialEq, Eq)]
+#[derive(Clone, Copy)]
 pub struct Invalidation {
     /// The cas unique that it gets.
     pub cas: u64,

@@ -23,7 +23,7 @@ use service_lane::ServiceLane;
 use std::alloc::Global;
 
 /// What a meta get does to the item that it asks for.
-#[derive(Clone, Copy, PartialEq, Eq)]
+#[derive(Clone, Copy)]
 pub struct MetaGet {
     /// `T`: what becomes of the expiry of an item that is hit.
     pub touch: ExpiryChange,
@@ -34,7 +34,7 @@ pub struct MetaGet {
 }
 
 /// The empty item that a miss stores.
-#[derive(Clone, Copy, PartialEq, Eq)]
+#[derive(Clone, Copy)]
 pub struct Vivify {
     /// When it expires. In memcached that is what the later of `N` and `T` in the line says.
     pub expires: Option<u32>,
@@ -43,7 +43,7 @@ pub struct Vivify {
 }
 
 /// When an item is to be refreshed before it expires.
-#[derive(Clone, Copy, PartialEq, Eq)]
+#[derive(Clone, Copy)]
 pub struct Recache {
     /// The item is to be refreshed if it expires before this moment: the moment of the call, and `R`'s seconds.
     pub before: u32,

@@ -16,7 +16,7 @@ use service_lane::ServiceLane;
 use std::alloc::Global;
 
 /// The mode of a meta set: its flag `M`.
-#[derive(Clone, Copy, PartialEq, Eq)]
+#[derive(Clone, Copy)]
 pub enum MetaMode {
     /// `S`, and where no mode is named.
     Set,
@@ -31,7 +31,7 @@ pub enum MetaMode {
 }
 
 /// How a meta set stores.
-#[derive(Clone, Copy, PartialEq, Eq)]
+#[derive(Clone, Copy)]
 pub struct MetaSet {
     /// `M`: how it depends on the live item.
     pub mode: MetaMode,

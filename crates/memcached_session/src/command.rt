@@ -7,7 +7,7 @@ ghost use Rattle.memcached_session.specs.Counting.{number_of_command, command_of
 use memcached_text::{Direction, MetaCommand, StoreCommand, StreamEvent, TextRequest};
 
 /// What a step was, for a server's counters.
-#[derive(Clone, Copy, PartialEq, Eq)]
+#[derive(Clone, Copy)]
 pub enum SessionCommand {
     /// A part of a request, or one that is not counted.
     None,

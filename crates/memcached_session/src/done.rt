@@ -2,7 +2,7 @@
 
 /// What a step reports: how many bytes it took, how many it answered, and what it was, for counters.
 #[repr(C)]
-#[derive(Clone, Copy, PartialEq, Eq)]
+#[derive(Clone, Copy)]
 pub struct SessionDone {
     /// How many bytes are taken. The rest is to be fed again, with what comes after it.
     pub taken: usize,

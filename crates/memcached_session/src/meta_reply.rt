@@ -15,7 +15,7 @@ use memcached_text::{
 };
 
 /// What of an item can be returned.
-#[derive(Clone, Copy, PartialEq, Eq)]
+#[derive(Clone, Copy)]
 pub(crate) struct Returned {
     /// Its cas unique.
     pub(crate) cas: Option<u64>,

@@ -3,7 +3,7 @@ ghost use Rattle.std.specs.Prelude.{◌≡◌};
 ghost use Rattle.memcached_session.specs.Counting.{number_of_outcome};
 
 /// How a step went, for a server's counters.
-#[derive(Clone, Copy, PartialEq, Eq)]
+#[derive(Clone, Copy)]
 pub enum SessionOutcome {
     /// Nothing is to be counted.
     Nothing,

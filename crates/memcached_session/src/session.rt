@@ -29,7 +29,7 @@ const PAST: u32 = 3;
 /// Where a session stands between two steps, as plain data: all zeros is the start of a client's stream. Numbers that are no
 /// place are a session that is to be closed.
 #[repr(C)]
-#[derive(Clone, Copy, PartialEq, Eq)]
+#[derive(Clone, Copy)]
 pub struct Session {
     /// How many bytes are still to be passed over, at place 3.
     pub skipped: u64,

@@ -3,7 +3,7 @@ ghost use Rattle.std.specs.Prelude.{◌≡◌, ◌||◌};
 ghost use Rattle.memcached_session.specs.Wanting.{detail_of, kind_of, number_of_kind};
 
 /// Which stats a client asks for.
-#[derive(Clone, Copy, PartialEq, Eq)]
+#[derive(Clone, Copy)]
 pub enum StatsKind {
     /// `stats`.
     General,

@@ -2,7 +2,7 @@
 
 /// What a server gives a step beside the bytes.
 #[repr(C)]
-#[derive(Clone, Copy, PartialEq, Eq)]
+#[derive(Clone, Copy)]
 pub struct SessionTurn {
     /// The moment, in seconds since 1970. It may go backwards.
     pub moment: u64,

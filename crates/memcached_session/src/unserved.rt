@@ -7,7 +7,7 @@ use crate::meta_reading::has_flag;
 use memcached_text::{MetaCommand, MetaRequest};
 
 /// What a meta command asks for that is not served.
-#[derive(Clone, Copy, PartialEq, Eq)]
+#[derive(Clone, Copy)]
 pub enum Unserved {
     /// `me`.
     Debug,

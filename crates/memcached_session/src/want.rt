@@ -24,7 +24,7 @@ pub enum Want<'a> {
 }
 
 /// What a step that needs no lane needs of its server.
-#[derive(Clone, Copy, PartialEq, Eq)]
+#[derive(Clone, Copy)]
 pub enum Need {
     /// More bytes: nothing would be taken.
     More,
