@@ -7,5 +7,6 @@ pub mod Streams
 pub mod Faults
 pub mod StepFlags
 pub mod Announcing
+pub mod MetaLines
 pub mod Blocks
 pub mod public_laws

@@ -1,17 +1,12 @@
--- Lists that the library's lemmas leave out: a test of some element of a mapped list, and the place that a search gave.
-use Rattle.std.proofs.Common.{◌≡◌, ℕ, ◌<◌, ◌≤◌, ◌||◌, ltb, cond, ◌-◌, not, take, drop, nat_le, Bool, true, false, List, [], ◌∷◌, ◌++◌, ◌+◌, zero, suc, get_or, length, map, Option, Some, None, refl, sym, ap, ◌∙◌, arith, inl, inr}
-use Rattle.std.specs.List.{list_any, position, position_or_len, concat}
-use Rattle.std.proofs.lemmas.Bool.{cases_Bool}
+-- Lists that the library's lemmas leave out: the place that a search gave, and pieces that are joined.
+use Rattle.std.proofs.Common.{◌≡◌, ◌≢◌, ◌==◌, ℕ, ◌<◌, ◌≤◌, ◌-◌, not, take, drop, nat_le, Bool, true, false, List, [], ◌∷◌, ◌++◌, ◌+◌, zero, suc, get_or, length, map, Some, None, refl, sym, ap, ◌∙◌, arith, inl, inr}
+use Rattle.std.specs.List.{position, position_or_len, concat}
+use Rattle.std.proofs.lemmas.Bool.{cases_Bool, lt-ltb, le-ltb}
 use Rattle.std.proofs.lemmas.Bool.Decides.{nat_tests}
 use Rattle.std.proofs.lemmas.Grind.{common_steps}
 use Rattle.std.proofs.lemmas.List.{length-append, map-append, take_more, length-map, get_or-map}
 use Rattle.std.proofs.lemmas.List.Folds.{concat-append}
-use Rattle.std.proofs.lemmas.List.Sums.{prefix_len-le-length}
-use borrow.Author.Tests.{ltb-false}
-
-pub list_any-map : {X Y : Type 0} (p : X → Bool) (h : Y → X) (ys : List Y) → list_any p (map h ys) ≡ list_any (λ y. p (h y)) ys
-list_any-map p h [] = refl
-list_any-map p h (y ∷ ys) = ap (λ b. p (h y) || b) (list_any-map p h ys)
+use Rattle.std.proofs.lemmas.List.Sums.{position_or_len_is}
 
 front_map : {X Y : Type 0} (p : X → Bool) (h : Y → X) (ys : List Y) → position_or_len p (map h ys) ≡ position_or_len (λ y. p (h y)) ys
 front_map p h [] = refl
@@ -23,37 +18,39 @@ front_map p h (y ∷ ys) = elim (cases_Bool (p (h y))) [
 pub position-map : {X Y : Type 0} (p : X → Bool) (h : Y → X) (ys : List Y) → position p (map h ys) ≡ position (λ y. p (h y)) ys
 position-map p h ys = rw (front_map p h ys, length-map ys h) refl
 
--- a search that gave a place gave this one, and one that gave none went to the end
-pub found_at : (r : Option ℕ) (place len n : ℕ) → r ≡ cond (ltb place len) (Some place) None → r ≡ Some n → n ≡ place
-found_at r place len n is some = elim (cases_Bool (ltb place len)) [
-  | inl less ↦ let e : r ≡ Some place = rw less at is in cc
-  | inr more ↦ let e : r ≡ None = rw more at is in cc
-]
-
-pub found_none : (r : Option ℕ) (place len : ℕ) → r ≡ cond (ltb place len) (Some place) None → r ≡ None → ltb place len ≡ false
-found_none r place len is none = elim (cases_Bool (ltb place len)) [
-  | inl less ↦ let e : r ≡ Some place = rw less at is in cc
-  | inr more ↦ more
-]
-
 pub rest_dropped : (xs : List ℕ) (n : ℕ) → take (length xs - n) (drop n xs) ≡ drop n xs
 rest_dropped xs n = grind (arith, common_steps)
 
--- what is left from such a place on
-pub dropped_some : (xs : List ℕ) (test : ℕ → Bool) (r : Option ℕ) (n : ℕ) → r ≡ cond (ltb (position_or_len test xs) (length xs)) (Some (position_or_len test xs)) None → r ≡ Some n → take (length xs - n) (drop n xs) ≡ drop (position_or_len test xs) xs
-dropped_some xs test r n is some =
-    let place = found_at r (position_or_len test xs) (length xs) n is some in
-    rest_dropped xs n ∙ ap (λ k. drop k xs) place
+-- what is left from a place on
+pub dropped_at : (xs : List ℕ) (place n : ℕ) → n ≡ place → take (length xs - n) (drop n xs) ≡ drop place xs
+dropped_at xs place n is = rest_dropped xs n ∙ ap (λ k. drop k xs) is
 
-pub none_found : (test : ℕ → Bool) (xs : List ℕ) (r : Option ℕ) → r ≡ cond (ltb (position_or_len test xs) (length xs)) (Some (position_or_len test xs)) None → r ≡ None → length xs ≡ position_or_len test xs
-none_found test xs r is none =
-    let end = ltb-false _ _ (found_none r (position_or_len test xs) (length xs) is none) in
-    let most = prefix_len-le-length (λ x. not (test x)) xs in
-    omega (arith, end, most)
+-- the place that a loop found is the first one that passes
+pub place_found : {A : Type 0} (p : A → Bool) (xs : List A) (d : A) (i : ℕ) → i < length xs → ((k : ℕ) → k < i → p (get_or xs k d) ≡ false) → p (get_or xs i d) ≡ true → Some i ≡ position p xs
+place_found p xs d i less before here =
+    let is = position_or_len_is p xs i d (omega (arith, less)) before (λ _. here) in
+    rw (is, lt-ltb i (length xs) less) refl
 
-pub dropped_none : (xs : List ℕ) (test : ℕ → Bool) (r : Option ℕ) → r ≡ cond (ltb (position_or_len test xs) (length xs)) (Some (position_or_len test xs)) None → r ≡ None → take (length xs - length xs) (drop (length xs) xs) ≡ drop (position_or_len test xs) xs
-dropped_none xs test r is none =
-    rest_dropped xs (length xs) ∙ ap (λ k. drop k xs) (none_found test xs r is none)
+-- none passes
+pub no_place : {A : Type 0} (p : A → Bool) (xs : List A) (d : A) (i : ℕ) → length xs ≤ i → i ≤ length xs → ((k : ℕ) → k < i → p (get_or xs k d) ≡ false) → None ≡ position p xs
+no_place p xs d i end within before =
+    let is = position_or_len_is p xs i d within before (λ less. absurd (omega (arith, less, end))) in
+    rw (is, le-ltb i (length xs) end) refl
+
+-- the same, of the number of those before it
+pub place_is : (p : ℕ → Bool) (xs : List ℕ) (i : ℕ) → i < length xs → ((k : ℕ) → k < i → p (get_or xs k 0) ≡ false) → p (get_or xs i 0) ≡ true → i ≡ position_or_len p xs
+place_is p xs i less before here = sym (position_or_len_is p xs i 0 (omega (arith, less)) before (λ _. here))
+
+pub length_is : (p : ℕ → Bool) (xs : List ℕ) (i : ℕ) → length xs ≤ i → i ≤ length xs → ((k : ℕ) → k < i → p (get_or xs k 0) ≡ false) → length xs ≡ position_or_len p xs
+length_is p xs i end within before =
+    let is = position_or_len_is p xs i 0 within before (λ less. absurd (omega (arith, less, end))) in
+    omega (arith, is, end, within)
+
+pub same_byte : (b n : ℕ) → b ≡ n → (b == n) ≡ true
+same_byte b n is = grind (arith, nat_tests)
+
+pub other_byte : (b n : ℕ) → b ≢ n → not (b == n) ≡ true
+other_byte b n is = grind (arith, nat_tests)
 
 pub few_taken : {A : Type 0} (n : ℕ) (xs : List A) → length (take n xs) ≤ n
 few_taken n xs = grind (arith, common_steps)

@@ -162,13 +162,17 @@ sized_of (Some length) words flags =
 unfoldable pub set_of : List (List ℕ) → List ℕ → Result Asked LineRefusal
 set_of words flags = sized_of (length_of (word_at words 2)) words flags
 
--- the flags are what is after the command, the key and, for ms, the length
+-- the flags are what is after the key and, for ms, the length
+abbrev pub request_after : MetaCommand → List (List ℕ) → List ℕ → Result Asked LineRefusal
+request_after Get words rest = keyed_of Get words rest
+request_after Set words rest = set_of words (after_word rest)
+request_after Delete words rest = keyed_of Delete words rest
+request_after Arithmetic words rest = keyed_of Arithmetic words rest
+request_after Debug words rest = keyed_of Debug words rest
+
+-- the key is after the command
 abbrev pub asking_of : MetaCommand → List (List ℕ) → List ℕ → Result Asked LineRefusal
-asking_of Get words line = keyed_of Get words (after_word (after_word line))
-asking_of Set words line = set_of words (after_word (after_word (after_word line)))
-asking_of Delete words line = keyed_of Delete words (after_word (after_word line))
-asking_of Arithmetic words line = keyed_of Arithmetic words (after_word (after_word line))
-asking_of Debug words line = keyed_of Debug words (after_word (after_word line))
+asking_of command words line = request_after command words (after_word (after_word line))
 
 -- the words of a command's line before its flags
 abbrev pub first_flag : MetaCommand → ℕ
@@ -190,3 +194,10 @@ meta_request_of command words line =
     else (if not (is_key (word_at words 1)) || nat_lt (length words) (first_flag command) then Err (meta_refusal command words BadFormat)
     else (if nat_lt 19 (length words) then Err (meta_refusal command words (many_fault command))
     else asking_of command words line))
+
+-- the fault of the words of such a line, their flags aside
+abbrev pub words_fault : MetaCommand → List (List ℕ) → Option LineError
+words_fault command words =
+    if nat_lt (length words) 2 then Some Unknown
+    else (if not (is_key (word_at words 1)) || nat_lt (length words) (first_flag command) then Some BadFormat
+    else (if nat_lt 19 (length words) then Some (many_fault command) else None))

@@ -12,7 +12,7 @@ use crate::numbers::{data_len, expiry, low_number, number};
 use crate::store_command::StoreCommand;
 use crate::text_request::{DeltaRequest, StoreRequest, TextRequest};
 use crate::verb::Direction;
-use crate::words::{is_key, is_noreply};
+use crate::words::{is_key, is_noreply, is_text};
 
 /// Whether there are that many words.
 fn has_words(words: &[&[u8]], least: usize, most: usize) -> bool
@@ -76,25 +76,27 @@ pub(crate) fn store_request<'a>(
     if !is_key(words[1]) {
         return Err(LineError::BadFormat);
     }
-    match (
-        low_number(words[2]),
-        expiry(words[3]),
-        data_len(words[4]),
-        cas_unique(mode, words),
-    ) {
-        (Some(flags), Some(exptime), Some(length), Some(cas)) => Ok(TextRequest::Store(
-            StoreRequest {
-                mode,
-                key: words[1],
-                flags,
-                exptime,
-                length,
-                cas,
-                noreply,
-            },
-        )),
-        _ => Err(LineError::BadFormat),
-    }
+    let Some(flags) = low_number(words[2]) else {
+        return Err(LineError::BadFormat);
+    };
+    let Some(exptime) = expiry(words[3]) else {
+        return Err(LineError::BadFormat);
+    };
+    let Some(length) = data_len(words[4]) else {
+        return Err(LineError::BadFormat);
+    };
+    let Some(cas) = cas_unique(mode, words) else {
+        return Err(LineError::BadFormat);
+    };
+    Ok(TextRequest::Store(StoreRequest {
+        mode,
+        key: words[1],
+        flags,
+        exptime,
+        length,
+        cas,
+        noreply,
+    }))
 }
 
 /// Whether no answer to a `delete` is wanted, if its words after the key are `[0] [noreply]`.
@@ -106,14 +108,14 @@ fn delete_end(words: &[&[u8]]) -> Option<bool>
     if words.len() == 2 {
         Some(false)
     } else if words.len() == 3 {
-        if words[2] == b"0".as_slice() {
+        if is_text(words[2], b"0") {
             Some(false)
         } else if is_noreply(words[2]) {
             Some(true)
         } else {
             None
         }
-    } else if words[2] == b"0".as_slice() && is_noreply(words[3]) {
+    } else if is_text(words[2], b"0") && is_noreply(words[3]) {
         Some(true)
     } else {
         None
@@ -249,7 +251,7 @@ pub(crate) fn shutdown_request<'a>(words: &[&'a [u8]]) -> Result<TextRequest<'a>
 {
     if words.len() == 1 {
         Ok(TextRequest::Shutdown { graceful: false })
-    } else if words.len() == 2 && words[1] == b"graceful".as_slice() {
+    } else if words.len() == 2 && is_text(words[1], b"graceful") {
         Ok(TextRequest::Shutdown { graceful: true })
     } else {
         Err(LineError::BadShutdown)

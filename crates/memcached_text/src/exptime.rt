@@ -1,7 +1,7 @@
 // When a value expires.
 
 /// When a value expires, as a client says it.
-#[derive(Clone, Copy, Debug, PartialEq, Eq)]
+#[derive(Clone, Copy, Debug)]
 pub enum Exptime {
     /// Never: the client says 0.
     Never,

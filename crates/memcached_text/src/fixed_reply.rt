@@ -3,7 +3,7 @@ ghost use Rattle.std.specs.Prelude.{◌≡◌};
 ghost use Rattle.memcached_text.specs.Texts.{reply_text};
 
 /// An answer of fixed words: what was done, or why not.
-#[derive(Clone, Copy, PartialEq, Eq)]
+#[derive(Clone, Copy)]
 pub enum FixedReply {
     /// The last line of the answer to `get` and `stats`.
     End,

@@ -5,7 +5,7 @@ ghost use Rattle.memcached_text.specs.Refusals.{loud, block_by};
 use crate::line_error::LineError;
 
 /// The data block that belongs to a line that is refused.
-#[derive(Clone, Copy, Debug, PartialEq, Eq)]
+#[derive(Clone, Copy, Debug)]
 pub enum RefusedBlock {
     /// None: the line's command does not store.
     Absent,
@@ -17,7 +17,7 @@ pub enum RefusedBlock {
 }
 
 /// A line that is refused.
-#[derive(Clone, Copy, Debug, PartialEq, Eq)]
+#[derive(Clone, Copy, Debug)]
 pub struct LineRefusal {
     /// Why.
     pub fault: LineError,

@@ -1,8 +1,8 @@
 // The meta commands that name a key, and their flags.
-ghost use Rattle.std.specs.Prelude.{◌≡◌, ◌+◌, ◌<◌, ◌≤◌, ◌^◌, ◌&&◌, ◌||◌, not, nat_le, nat_lt, ◌==◌, map, option_map, drop, length, slice_index_or, []};
+ghost use Rattle.std.specs.Prelude.{◌≡◌, ◌+◌, None, ◌<◌, ◌≤◌, ◌^◌, ◌&&◌, ◌||◌, not, nat_le, nat_lt, ◌==◌, map, option_map, drop, length, slice_index_or, []};
 ghost use Rattle.std.specs.List.{list_any};
 ghost use Rattle.memcached_text.specs.Words.{words_of, word_at, after_word, is_key};
-ghost use Rattle.memcached_text.specs.Meta.{letter_of, is_among, has_letter, token_of, number_fault, flag_fault, fault_after, place_at, is_before, flag_at, token_at, number_at, exptime_at, weight_of, rank_of, graver, gravest, is_mode_outside, mode_fault, told_of, flags_fault, fault_for, first_of, unless, first_flag, many_fault, meta_refusal, asking_of, keyed_of, set_of, unless_fault, meta_request_of};
+ghost use Rattle.memcached_text.specs.Meta.{letter_of, is_among, has_letter, token_of, number_fault, flag_fault, fault_after, place_at, is_before, flag_at, token_at, number_at, exptime_at, weight_of, rank_of, graver, gravest, is_mode_outside, mode_fault, told_of, flags_fault, fault_for, first_of, unless, first_flag, many_fault, meta_refusal, set_of, unless_fault, request_after, meta_request_of, words_fault};
 ghost use Rattle.memcached_text.specs.Refusals.{meta_block};
 ghost use Rattle.memcached_text.specs.Asked.{shown_or_refused};
 
@@ -40,14 +40,24 @@ pub(crate) fn letter(flag: &[u8]) -> u8
 fn is_among(letter: u8, letters: &[u8]) -> bool
     ensures { result ≡ is_among letter letters.now }
 {
-    letters.iter().any(|other| *other == letter)
+    for other in letters {
+        if *other == letter {
+            return true;
+        }
+    }
+    false
 }
 
 /// Whether one of the flags has a letter.
-fn has_letter(flags: &[&[u8]], letter_wanted: u8) -> bool
-    ensures { result ≡ has_letter letter_wanted (map (λ w. w.now) flags.now) }
+fn has_letter(flags: &[&[u8]], wanted: u8) -> bool
+    ensures { result ≡ has_letter wanted (map (λ w. w.now) flags.now) }
 {
-    flags.iter().any(|flag| letter(flag) == letter_wanted)
+    for flag in flags {
+        if letter(flag) == wanted {
+            return true;
+        }
+    }
+    false
 }
 
 /// The token of a flag: what follows its letter.
@@ -249,7 +259,12 @@ fn is_mode_outside(modes: &[u8], flag: &[u8]) -> bool
 fn has_mode_outside(modes: &[u8], flags: &[&[u8]]) -> bool
     ensures { result ≡ list_any (is_mode_outside modes.now) (map (λ w. w.now) flags.now) }
 {
-    flags.iter().any(|flag| is_mode_outside(modes, flag))
+    for flag in flags {
+        if is_mode_outside(modes, flag) {
+            return true;
+        }
+    }
+    false
 }
 
 /// The fault of the mode that flags name.
@@ -411,7 +426,6 @@ fn many_fault(command: MetaCommand) -> LineError
 }
 
 /// The request of a meta command's line, with the line's words.
-#[tactic(auto, unfolding(crate::specs::Meta::meta_request_of))]
 pub(crate) fn meta_request<'a>(
     command: MetaCommand,
     words: &[&'a [u8]],
@@ -419,21 +433,39 @@ pub(crate) fn meta_request<'a>(
 ) -> Result<TextRequest<'a>, LineRefusal>
     ensures { shown_or_refused result ≡ meta_request_of command (map (λ w. w.now) words.now) line.now }
 {
+    match words_fault(command, words) {
+        None => request_after(command, words, after_word(after_word(line))),
+        Some(fault) => Err(refusal(command, words, fault)),
+    }
+}
+
+/// The fault of a meta command's words, their flags aside.
+fn words_fault(command: MetaCommand, words: &[&[u8]]) -> Option<LineError>
+    ensures exact { result ≡ words_fault command (map (λ w. w.now) words.now) }
+    ensures enough { result ≡ None → first_flag command ≤ length words.now }
+{
     if words.len() < 2 {
-        return Err(refusal(command, words, LineError::Unknown));
+        Some(LineError::Unknown)
+    } else if !is_key(words[1]) || words.len() < first_flag(command) {
+        Some(LineError::BadFormat)
+    } else if words.len() > MAX_META_WORDS {
+        Some(many_fault(command))
+    } else {
+        None
     }
-    if !is_key(words[1]) || words.len() < first_flag(command) {
-        return Err(refusal(command, words, LineError::BadFormat));
-    }
-    if words.len() > MAX_META_WORDS {
-        return Err(refusal(command, words, many_fault(command)));
-    }
-    let after_key = after_word(after_word(line));
+}
+
+/// The request of a meta command, by what is after its key.
+fn request_after<'a>(
+    command: MetaCommand,
+    words: &[&'a [u8]],
+    rest: &'a [u8],
+) -> Result<TextRequest<'a>, LineRefusal>
+    requires { first_flag command ≤ length words.now }
+    ensures { shown_or_refused result ≡ request_after command (map (λ w. w.now) words.now) rest.now }
+{
     match command {
-        MetaCommand::Set => sized_request(words, after_word(after_key)),
-        MetaCommand::Get => flagged_request(command, 0, words, after_key),
-        MetaCommand::Delete => flagged_request(command, 0, words, after_key),
-        MetaCommand::Arithmetic => flagged_request(command, 0, words, after_key),
-        MetaCommand::Debug => flagged_request(command, 0, words, after_key),
+        MetaCommand::Set => sized_request(words, after_word(rest)),
+        _ => flagged_request(command, 0, words, rest),
     }
 }

@@ -52,7 +52,7 @@ pub struct MetaFields<'a> {
 }
 
 /// How long an item lives.
-#[derive(Clone, Copy, PartialEq, Eq)]
+#[derive(Clone, Copy)]
 pub enum Ttl {
     /// It does not expire: -1.
     Unlimited,
@@ -61,7 +61,7 @@ pub enum Ttl {
 }
 
 /// What is said of an item unasked.
-#[derive(Clone, Copy, PartialEq, Eq)]
+#[derive(Clone, Copy)]
 pub struct MetaMarks {
     /// `Z`: another client was told to bring a new value.
     pub is_awaited: bool,

@@ -11,6 +11,9 @@ const TOO_LARGE: u128 = 0x1_0000_0000_0000_0000;
 /// The first number that has no room in 32 bits.
 const LOW: u64 = 0x1_0000_0000;
 
+/// The length of the longest data block that a line can name.
+const LONGEST: u64 = 0x7fff_ffff;
+
 /// The first number of 64 bits that is negative if its first bit is a sign.
 const NEGATIVE: u64 = 0x8000_0000_0000_0000;
 
@@ -21,7 +24,12 @@ const LOW_NEGATIVE: u32 = 0x8000_0000;
 fn are_digits(bytes: &[u8]) -> bool
     ensures { result ≡ are_digits bytes.now }
 {
-    bytes.iter().all(|b| b'0' <= *b && *b <= b'9')
+    for byte in bytes {
+        if *byte < b'0' || b'9' < *byte {
+            return false;
+        }
+    }
+    true
 }
 
 /// A number, or the first one without room in 64 bits if it is greater.
@@ -80,7 +88,10 @@ pub(crate) fn number(word: &[u8]) -> Option<u64>
 pub(crate) fn low_number(word: &[u8]) -> Option<u32>
     ensures { result ≡ low_number word.now }
 {
-    Some(low(number(word)?))
+    match number(word) {
+        Some(number) => Some(low(number)),
+        None => None,
+    }
 }
 
 // The lower half of a number.
@@ -94,8 +105,10 @@ fn low(number: u64) -> u32
 pub(crate) fn data_len(word: &[u8]) -> Option<u32>
     ensures { result ≡ length_of word.now }
 {
-    let len = u32::try_from(number(word)?).ok()?;
-    if len < LOW_NEGATIVE { Some(len) } else { None }
+    match number(word) {
+        Some(len) if len <= LONGEST => Some(len as u32),
+        _ => None,
+    }
 }
 
 /// The moment that a word of 64 bits and a sign writes.

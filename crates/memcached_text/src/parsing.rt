@@ -16,7 +16,7 @@ use crate::meta::meta_request;
 use crate::numbers::data_len;
 use crate::text_request::TextRequest;
 use crate::verb::{Verb, named_meta, named_verb};
-use crate::words::{is_noreply, words_in};
+use crate::words::{is_noreply, is_text, words_in};
 
 /// Whether a command's line may end in `noreply`.
 fn may_be_quiet(verb: Verb) -> bool
@@ -154,7 +154,7 @@ fn is_command(word: &[u8]) -> bool
 fn is_version(word: &[u8]) -> bool
     ensures { result ≡ is_version word.now }
 {
-    word.len() >= 5 && &word[..5] == b"HTTP/".as_slice()
+    word.len() >= 5 && is_text(&word[..5], b"HTTP/")
 }
 
 /// The last word, empty if there is none.

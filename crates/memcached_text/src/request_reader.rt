@@ -1,6 +1,5 @@
 // Requests from bytes that come in pieces.
 ghost use Rattle.std.specs.Prelude.{◌≡◌, ◌+◌, ◌-◌, ◌<◌, ◌≤◌, ◌++◌, ◌&&◌, ◌||◌, not, false, nat_lt, nat_le, ◌==◌, List, ℕ, length, take, drop, position, slice_index_or, IfSome, Some, None};
-ghost use Rattle.std.specs.List.{position_or_len};
 ghost use Rattle.memcached_text.specs.Asked.{shown, shown_or_refused};
 ghost use Rattle.memcached_text.specs.Requests.{request_of};
 ghost use Rattle.memcached_text.specs.Words.{after_word, is_key};
@@ -16,7 +15,7 @@ use crate::reader_state::ReaderState;
 use crate::stream_event::{StreamEvent, StreamStep};
 use crate::text_request::TextRequest;
 use crate::verb::MetaCommand;
-use crate::words::{MAX_KEY_LEN, after_word, is_key};
+use crate::words::{MAX_KEY_LEN, after_word, is_key, spaces};
 
 /// The most bytes of a line that has no keys to be given one by one, without its line feed.
 pub const MAX_LINE_LEN: usize = 2048;
@@ -44,7 +43,12 @@ fn feed_at(bytes: &[u8]) -> Option<usize>
     ensures place { result ≡ position is_feed bytes.now }
     ensures within { IfSome result (λ at. at < length bytes.now) }
 {
-    bytes.iter().position(|b| *b == b'\n')
+    for at in 0..bytes.len() {
+        if bytes[at] == b'\n' {
+            return Some(at);
+        }
+    }
+    None
 }
 
 /// The place of the first space or line feed.
@@ -52,18 +56,12 @@ fn end_at(bytes: &[u8]) -> Option<usize>
     ensures place { result ≡ position is_end bytes.now }
     ensures within { IfSome result (λ at. at < length bytes.now) }
 {
-    bytes.iter().position(|b| *b == b' ' || *b == b'\n')
-}
-
-/// How many spaces bytes begin with.
-fn spaces(bytes: &[u8]) -> usize
-    ensures count { result ≡ position_or_len (λ b. not (b == 32)) bytes.now }
-    ensures within { result ≤ length bytes.now }
-{
-    match bytes.iter().position(|b| *b != b' ') {
-        Some(count) => count,
-        None => bytes.len(),
+    for at in 0..bytes.len() {
+        if bytes[at] == b' ' || bytes[at] == b'\n' {
+            return Some(at);
+        }
     }
+    None
 }
 
 /// A line without the carriage return at its end.
@@ -221,21 +219,9 @@ fn request_given<'a>(
         ),
         TextRequest::Meta(meta) => match meta.command {
             MetaCommand::Set => block_given(most, past, request, meta.length, false, rest),
-            MetaCommand::Get => plain_given(past, request),
-            MetaCommand::Delete => plain_given(past, request),
-            MetaCommand::Arithmetic => plain_given(past, request),
-            MetaCommand::Debug => plain_given(past, request),
+            _ => plain_given(past, request),
         },
-        TextRequest::Delete { .. } => plain_given(past, request),
-        TextRequest::Delta(_) => plain_given(past, request),
-        TextRequest::Touch { .. } => plain_given(past, request),
-        TextRequest::FlushAll { .. } => plain_given(past, request),
-        TextRequest::Stats { .. } => plain_given(past, request),
-        TextRequest::Version => plain_given(past, request),
-        TextRequest::Verbosity { .. } => plain_given(past, request),
-        TextRequest::Quit => plain_given(past, request),
-        TextRequest::Shutdown { .. } => plain_given(past, request),
-        TextRequest::MetaNoop => plain_given(past, request),
+        _ => plain_given(past, request),
     }
 }
 

@@ -1,7 +1,7 @@
 // How a value is stored.
 
 /// How a value is stored: the commands `set`, `add`, `replace`, `append`, `prepend` and `cas`.
-#[derive(Clone, Copy, Debug, PartialEq, Eq)]
+#[derive(Clone, Copy, Debug)]
 pub enum StoreCommand {
     /// Whatever the key has.
     Set,

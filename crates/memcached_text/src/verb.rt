@@ -3,9 +3,10 @@ ghost use Rattle.std.specs.Prelude.{◌≡◌};
 ghost use Rattle.memcached_text.specs.Verbs.{verb_of, mode_of, meta_of, other_of, of_server};
 
 use crate::store_command::StoreCommand;
+use crate::words::is_text;
 
 /// Whether a number is to grow or to shrink.
-#[derive(Clone, Copy, Debug, PartialEq, Eq)]
+#[derive(Clone, Copy, Debug)]
 pub enum Direction {
     /// `incr`: it grows, and wraps at 2^64.
     Up,
@@ -14,7 +15,7 @@ pub enum Direction {
 }
 
 /// A meta command that names a key.
-#[derive(Clone, Copy, Debug, PartialEq, Eq)]
+#[derive(Clone, Copy, Debug)]
 pub enum MetaCommand {
     /// `mg`: get.
     Get,
@@ -29,7 +30,7 @@ pub enum MetaCommand {
 }
 
 /// The classic command that a line's first word names, or `mn`.
-#[derive(Clone, Copy, PartialEq, Eq)]
+#[derive(Clone, Copy)]
 pub(crate) enum Verb {
     Get,
     Gets,
@@ -63,17 +64,17 @@ pub(crate) fn named_verb(word: &[u8]) -> Option<Verb>
 fn named_mode(word: &[u8]) -> Option<StoreCommand>
     ensures { result ≡ mode_of word.now }
 {
-    if word == b"set".as_slice() {
+    if is_text(word, b"set") {
         Some(StoreCommand::Set)
-    } else if word == b"add".as_slice() {
+    } else if is_text(word, b"add") {
         Some(StoreCommand::Add)
-    } else if word == b"replace".as_slice() {
+    } else if is_text(word, b"replace") {
         Some(StoreCommand::Replace)
-    } else if word == b"append".as_slice() {
+    } else if is_text(word, b"append") {
         Some(StoreCommand::Append)
-    } else if word == b"prepend".as_slice() {
+    } else if is_text(word, b"prepend") {
         Some(StoreCommand::Prepend)
-    } else if word == b"cas".as_slice() {
+    } else if is_text(word, b"cas") {
         Some(StoreCommand::Cas)
     } else {
         None
@@ -84,15 +85,15 @@ fn named_mode(word: &[u8]) -> Option<StoreCommand>
 pub(crate) fn named_meta(word: &[u8]) -> Option<MetaCommand>
     ensures { result ≡ meta_of word.now }
 {
-    if word == b"mg".as_slice() {
+    if is_text(word, b"mg") {
         Some(MetaCommand::Get)
-    } else if word == b"ms".as_slice() {
+    } else if is_text(word, b"ms") {
         Some(MetaCommand::Set)
-    } else if word == b"md".as_slice() {
+    } else if is_text(word, b"md") {
         Some(MetaCommand::Delete)
-    } else if word == b"ma".as_slice() {
+    } else if is_text(word, b"ma") {
         Some(MetaCommand::Arithmetic)
-    } else if word == b"me".as_slice() {
+    } else if is_text(word, b"me") {
         Some(MetaCommand::Debug)
     } else {
         None
@@ -103,21 +104,21 @@ pub(crate) fn named_meta(word: &[u8]) -> Option<MetaCommand>
 fn named_other(word: &[u8]) -> Option<Verb>
     ensures { result ≡ other_of word.now }
 {
-    if word == b"get".as_slice() {
+    if is_text(word, b"get") {
         Some(Verb::Get)
-    } else if word == b"gets".as_slice() {
+    } else if is_text(word, b"gets") {
         Some(Verb::Gets)
-    } else if word == b"gat".as_slice() {
+    } else if is_text(word, b"gat") {
         Some(Verb::GetAndTouch)
-    } else if word == b"gats".as_slice() {
+    } else if is_text(word, b"gats") {
         Some(Verb::GetsAndTouch)
-    } else if word == b"delete".as_slice() {
+    } else if is_text(word, b"delete") {
         Some(Verb::Delete)
-    } else if word == b"incr".as_slice() {
+    } else if is_text(word, b"incr") {
         Some(Verb::Count(Direction::Up))
-    } else if word == b"decr".as_slice() {
+    } else if is_text(word, b"decr") {
         Some(Verb::Count(Direction::Down))
-    } else if word == b"touch".as_slice() {
+    } else if is_text(word, b"touch") {
         Some(Verb::Touch)
     } else {
         named_of_server(word)
@@ -128,19 +129,19 @@ fn named_other(word: &[u8]) -> Option<Verb>
 fn named_of_server(word: &[u8]) -> Option<Verb>
     ensures { result ≡ of_server word.now }
 {
-    if word == b"flush_all".as_slice() {
+    if is_text(word, b"flush_all") {
         Some(Verb::FlushAll)
-    } else if word == b"stats".as_slice() {
+    } else if is_text(word, b"stats") {
         Some(Verb::Stats)
-    } else if word == b"version".as_slice() {
+    } else if is_text(word, b"version") {
         Some(Verb::Version)
-    } else if word == b"verbosity".as_slice() {
+    } else if is_text(word, b"verbosity") {
         Some(Verb::Verbosity)
-    } else if word == b"quit".as_slice() {
+    } else if is_text(word, b"quit") {
         Some(Verb::Quit)
-    } else if word == b"shutdown".as_slice() {
+    } else if is_text(word, b"shutdown") {
         Some(Verb::Shutdown)
-    } else if word == b"mn".as_slice() {
+    } else if is_text(word, b"mn") {
         Some(Verb::MetaNoop)
     } else {
         None

@@ -1,5 +1,6 @@
 // The words of a line.
-ghost use Rattle.std.specs.Prelude.{◌≡◌, ◌<◌, ◌≤◌, nat_lt, nat_le, ◌&&◌, length, map, drop, [], slice_index_or};
+ghost use Rattle.std.specs.Prelude.{◌≡◌, ◌<◌, ◌≤◌, nat_lt, nat_le, ◌&&◌, not, ◌==◌, length, map, drop, [], slice_index_or};
+ghost use Rattle.std.specs.List.{position_or_len};
 ghost use Rattle.std.specs.Str.{bytes_eq};
 ghost use Rattle.memcached_text.specs.Words.{words_of, after_word, after_spaces, from_space, is_key, is_noreply};
 
@@ -23,24 +24,44 @@ pub(crate) fn words_in<'a>(line: &'a [u8]) -> ArrayVec<&'a [u8], MAX_WORDS>
     }
 }
 
+/// How many spaces a text begins with.
+pub(crate) fn spaces(text: &[u8]) -> usize
+    ensures count { result ≡ position_or_len (λ b. not (b == 32)) text.now }
+    ensures within { result ≤ length text.now }
+{
+    for at in 0..text.len() {
+        if text[at] != b' ' {
+            return at;
+        }
+    }
+    text.len()
+}
+
+/// How many bytes a text has before its first space.
+fn before_space(text: &[u8]) -> usize
+    ensures count { result ≡ position_or_len (λ b. b == 32) text.now }
+    ensures within { result ≤ length text.now }
+{
+    for at in 0..text.len() {
+        if text[at] == b' ' {
+            return at;
+        }
+    }
+    text.len()
+}
+
 /// What is left of a text after the spaces that it begins with.
 pub(crate) fn after_spaces<'a>(text: &'a [u8]) -> &'a [u8]
     ensures { result.now ≡ after_spaces text.now }
 {
-    match text.iter().position(|b| *b != b' ') {
-        Some(count) => &text[count..],
-        None => &text[text.len()..],
-    }
+    &text[spaces(text)..]
 }
 
 /// What is left of a text from its first space on.
 fn from_space<'a>(text: &'a [u8]) -> &'a [u8]
     ensures { result.now ≡ from_space text.now }
 {
-    match text.iter().position(|b| *b == b' ') {
-        Some(count) => &text[count..],
-        None => &text[text.len()..],
-    }
+    &text[before_space(text)..]
 }
 
 /// What is left of a text after its first word, and the spaces before and after that.
@@ -61,5 +82,12 @@ pub(crate) fn is_key(word: &[u8]) -> bool
 pub(crate) fn is_noreply(word: &[u8]) -> bool
     ensures { result ≡ is_noreply word.now }
 {
-    word == b"noreply".as_slice()
+    is_text(word, b"noreply")
+}
+
+/// Whether a word is this text.
+pub(crate) fn is_text(word: &[u8], text: &[u8]) -> bool
+    ensures { result ≡ bytes_eq word.now text.now }
+{
+    word == text
 }

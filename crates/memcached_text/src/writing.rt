@@ -235,11 +235,16 @@ fn append_parts(out: &mut AnswerBytes, answer: &MetaAnswer<'_>) -> Result<(), Ca
     ensures full { OnErr result (4096 < array_vec_len out.old + length (meta_text answer.now)) }
 {
     let flags = words_in(answer.flags);
-    append_status(out, &answer.status)?;
-    append_flags(out, &answer.fields, &flags)?;
-    append_marks(out, &answer.marks)?;
-    append_block(out, &answer.status)?;
-    Ok(())
+    let Ok(()) = append_status(out, &answer.status) else {
+        return Err(CapacityError::new(()));
+    };
+    let Ok(()) = append_flags(out, &answer.fields, &flags) else {
+        return Err(CapacityError::new(()));
+    };
+    let Ok(()) = append_marks(out, &answer.marks) else {
+        return Err(CapacityError::new(()));
+    };
+    append_block(out, &answer.status)
 }
 
 /// Appends the answer to a meta command. If it does not fit, nothing is appended.

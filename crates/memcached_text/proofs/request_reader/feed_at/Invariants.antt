@@ -1,0 +1,7 @@
+use Rattle.std.proofs.Common.{◌≡◌, ◌<◌, ℕ, get_or, false}
+use Rattle.memcached_text.specs.Steps.{is_feed}
+use Rattle.memcached_text.proofs.request_reader.feed_at.Given as goal
+
+-- none of the bytes so far is a line feed
+abbrev pub invariant-loop-at : goal.invariant-loop-at
+invariant-loop-at l = (k : ℕ) → k < l.at → is_feed (get_or l.bytes k 0) ≡ false
