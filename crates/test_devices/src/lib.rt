@@ -15,6 +15,6 @@ pub use asked_device::AskedDevice;
 pub use blank_device::BlankDevice;
 pub use made::{key, value};
 pub use stale::StaleDevice;
-pub use step::{MAX_TOLD, Spelled, Step};
-pub use text::{Scripted, WrongLine, find_wrong_line, run_text};
+pub use step::{MAX_TOLD, Spelled, Step, is};
+pub use text::{Scripted, WrongLine, find_wrong_line, run_line, run_text};
 pub use without_random::WithoutRandom;

@@ -2,7 +2,7 @@
 use crate::made::{key, value};
 use arrayvec::ArrayVec;
 use itoa::Buffer;
-use record_pages::{Key, Value};
+use record_pages::{Config, Key, Value};
 use std::alloc::Global;
 use std::test::Fail;
 
@@ -12,7 +12,12 @@ pub const MAX_TOLD: usize = 4096;
 /// What a word spells.
 pub type Spelled = ArrayVec<u8, MAX_TOLD>;
 
-/// A step of a text: the words of a call, and behind them those of its answer. Who makes the call takes its words, and tells the
+/// Whether a word is this one. A `match` on byte strings costs more to prove.
+pub fn is(word: &[u8], name: &[u8]) -> bool {
+    word == name
+}
+
+/// A step of a text: the words of a call, and after them those of its answer. Who makes the call takes its words, and tells the
 /// answer; then the answer has to be what the words that are left spell.
 #[derive(Drop)]
 pub struct Step<'a> {
@@ -117,6 +122,20 @@ impl<'a> Step<'a> {
             self.is_bad |= numbers.try_push(small).is_err();
         }
         numbers
+    }
+
+    /// Takes a configuration: the eight numbers that follow `config` in a script.
+    pub fn config(&mut self) -> Config {
+        Config {
+            lanes: self.small(),
+            sets: self.small(),
+            memory: self.small(),
+            segments: self.small(),
+            segment_pages: self.small(),
+            entries: self.small(),
+            threshold: self.small(),
+            admit: self.small(),
+        }
     }
 
     /// Tells bytes of the answer, as its next word.

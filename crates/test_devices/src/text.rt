@@ -39,6 +39,23 @@ pub fn run_text<S: Scripted>(alloc: Global, scripted: &mut S, text: &[u8]) -> Re
     }
 }
 
+/// Makes the calls of a line, the one of this number, and says how many there were. It fails with that number if one is wrong. Who has
+/// more to do after each line asks for a text's lines one by one, and sees in the end whether there was a call at all.
+pub fn run_line<S: Scripted>(
+    alloc: Global,
+    scripted: &mut S,
+    number: u64,
+    line: &[u8],
+) -> Result<u64, Fail>
+    requires { S.can_act }
+{
+    let mut made = 0u64;
+    match find_wrong_step(alloc, scripted, line, &mut made)? {
+        None => Ok(made),
+        Some(step) => Err(Fail::new(WrongLine { number, step })),
+    }
+}
+
 /// Makes the calls of a text, to the first line that is wrong. A step ends at a line feed or a semicolon, and blanks at its ends
 /// are skipped. So are empty steps, and lines that begin with `#`. If no step is left the last line is wrong.
 pub fn find_wrong_line<'a, S: Scripted>(
