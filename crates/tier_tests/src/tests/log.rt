@@ -20,8 +20,8 @@ use self::names::{name_of_appended, name_of_missed, name_of_oldest, name_of_read
 use self::owner::Owner;
 use self::scripted::{play, play_on_blank};
 use super::texts::{
-    EXPIRES, NONE_REFUSED, Refused, Tried, WAS_HELD, config_of, device, is, layout, name_of_flush,
-    pages_of, tell_looked,
+    EXPIRES, NONE_REFUSED, Refused, Tried, WAS_HELD, device, layout, name_of_flush, pages_of,
+    tell_looked,
 };
 use klog::{
     Appended, Flushed, KLog, LocatedInLog, Oldest, Readmitted, SetTaken, TakenRecord, TakenRecords,
@@ -32,4 +32,4 @@ use record_pages::{Config, Key, Layout, Looked, TimedValue};
 use std::alloc::{AllocError, Global};
 use std::process::Abort;
 use std::test::Fail;
-use test_devices::{BlankDevice, Scripted, Step, key, run_text, value};
+use test_devices::{BlankDevice, Scripted, Step, is, key, run_text, value};

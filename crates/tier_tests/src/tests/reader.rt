@@ -1,8 +1,7 @@
 //! The reader of texts: which steps are right, and which line is the first wrong one.
-use super::texts::is;
 use std::alloc::Global;
 use std::test::Fail;
-use test_devices::{Scripted, Step, find_wrong_line, run_text};
+use test_devices::{Scripted, Step, find_wrong_line, is, run_text};
 
 /// Calls that tell what they take.
 #[derive(Drop)]

@@ -12,9 +12,7 @@ mod striking;
 
 use self::owner::Owner;
 use self::scripted::{play, play_on_blank};
-use super::texts::{
-    EXPIRES, NONE_REFUSED, Refused, Tried, WAS_HELD, config_of, device, is, layout, tell_looked,
-};
+use super::texts::{EXPIRES, NONE_REFUSED, Refused, Tried, WAS_HELD, device, layout, tell_looked};
 use kset::{KSet, LocatedInSet, Rewritten, SetRead, SetRecord};
 use page_device::{MemoryDevice, PageDevice};
 use record_pages::{
@@ -22,7 +20,7 @@ use record_pages::{
 };
 use std::alloc::{AllocError, Global};
 use std::test::Fail;
-use test_devices::{BlankDevice, Scripted, Step, key, run_text, value};
+use test_devices::{BlankDevice, Scripted, Step, is, key, run_text, value};
 
 // One lane of one set.
 const ONE_SET: Config = Config {

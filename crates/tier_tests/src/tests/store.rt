@@ -20,14 +20,14 @@ mod untrue;
 mod untrue_device;
 
 use self::scripted::play;
-use super::texts::{EXPIRES, WAS_HELD, config_of, is, name_of_flush, pages_of};
+use super::texts::{EXPIRES, WAS_HELD, name_of_flush, pages_of};
 use mover::{Aborted, Committed, CopyFate, MovedWhole, OpenFault, Store};
 use page_device::{FuseDevice, MemoryDevice, PageDevice};
 use record_pages::{Config, Field, Pushed, PutFault, Tier};
 use rriparoo::Rriparoo;
 use std::alloc::{AllocError, Global};
 use std::test::Fail;
-use test_devices::{StaleDevice, Step, key, value};
+use test_devices::{StaleDevice, Step, is, key, value};
 
 // One lane of one set, with one object in memory and two segments of one page. Page 0 is the set's, pages 1 and 2 are the log's.
 const ONE_SET: Config = Config {

@@ -27,25 +27,6 @@ pub const NONE_REFUSED: Refused = Refused {
     for_good: false,
 };
 
-/// Whether a word is this one.
-pub fn is(word: &[u8], name: &[u8]) -> bool {
-    word == name
-}
-
-/// Takes a configuration: the eight numbers that follow `config` in a script.
-pub fn config_of(step: &mut Step<'_>) -> Config {
-    Config {
-        lanes: step.small(),
-        sets: step.small(),
-        memory: step.small(),
-        segments: step.small(),
-        segment_pages: step.small(),
-        entries: step.small(),
-        threshold: step.small(),
-        admit: step.small(),
-    }
-}
-
 /// The layout of a sound configuration.
 pub fn layout(config: &Config) -> Result<Layout, Fail> {
     match config.check() {

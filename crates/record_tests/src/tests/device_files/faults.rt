@@ -28,8 +28,11 @@ fn fails_past_the_end(device: &mut Pages) -> bool {
 fn a_page_past_the_end_of_the_file_is_a_fault(rt: HostRuntime) -> Result<(), Fail> {
     let _ = fs::remove_file(&rt, "cut.pages");
     let mut device = Pages::open(&rt, "cut.pages", 4)?;
-    assert!(rt; writes(&mut device, 0, 3) && writes(&mut device, 1, 4));
-    assert!(rt; is_cut(&rt, "cut.pages", 511));
-    assert!(rt; fails_past_the_end(&mut device));
+    assert!(rt;
+        writes(&mut device, 0, 3)
+            && writes(&mut device, 1, 4)
+            && is_cut(&rt, "cut.pages", 511)
+            && fails_past_the_end(&mut device)
+    );
     Ok(fs::remove_file(&rt, "cut.pages")?)
 }

@@ -7,17 +7,21 @@ use std::test::Fail;
 fn a_page_is_read_back_and_kept(rt: HostRuntime) -> Result<(), Fail> {
     let _ = fs::remove_file(&rt, "kept.pages");
     let held = [(0, 5), (1, 0), (2, 7)];
-    assert!(rt; keeps(&rt, "kept.pages", 3, &[(0, 5), (2, 7)], &held));
-    assert!(rt; keeps(&rt, "kept.pages", 3, &[], &held));
+    assert!(rt;
+        keeps(&rt, "kept.pages", 3, &[(0, 5), (2, 7)], &held)
+            && keeps(&rt, "kept.pages", 3, &[], &held)
+    );
     Ok(fs::remove_file(&rt, "kept.pages")?)
 }
 
 #[test]
 fn more_pages_are_zeros_and_fewer_cut_the_file(rt: HostRuntime) -> Result<(), Fail> {
     let _ = fs::remove_file(&rt, "longer.pages");
-    assert!(rt; keeps(&rt, "longer.pages", 1, &[(0, 9)], &[]));
-    assert!(rt; keeps(&rt, "longer.pages", 4, &[], &[(0, 9), (1, 0), (3, 0)]));
-    assert!(rt; keeps(&rt, "longer.pages", 2, &[], &[(0, 9)]));
+    assert!(rt;
+        keeps(&rt, "longer.pages", 1, &[(0, 9)], &[])
+            && keeps(&rt, "longer.pages", 4, &[], &[(0, 9), (1, 0), (3, 0)])
+            && keeps(&rt, "longer.pages", 2, &[], &[(0, 9)])
+    );
     Ok(fs::remove_file(&rt, "longer.pages")?)
 }
 

@@ -31,8 +31,11 @@ fn is_not_found<R: Files<File = fs::File>>(rt: &R, path: &str) -> bool {
 fn a_file_in_use_is_refused_and_keeps_its_length(rt: HostRuntime) -> Result<(), Fail> {
     let _ = fs::remove_file(&rt, "used.pages");
     let first = Pages::open(&rt, "used.pages", 2)?;
-    assert!(rt; is_in_use(&rt, "used.pages", 5) && is_in_use(&rt, "used.pages", 1));
-    assert!(rt; has_length(&rt, "used.pages", 512));
+    assert!(rt;
+        is_in_use(&rt, "used.pages", 5)
+            && is_in_use(&rt, "used.pages", 1)
+            && has_length(&rt, "used.pages", 512)
+    );
     drop(first);
     assert!(rt; keeps(&rt, "used.pages", 5, &[], &[]));
     Ok(fs::remove_file(&rt, "used.pages")?)
@@ -40,8 +43,11 @@ fn a_file_in_use_is_refused_and_keeps_its_length(rt: HostRuntime) -> Result<(), 
 
 #[test]
 fn a_folder_and_the_null_device_are_refused(rt: HostRuntime) -> Result<(), Fail> {
-    assert!(rt; is_not_regular(&rt, ".") && is_not_regular(&rt, "/dev/null"));
-    assert!(rt; is_not_found(&rt, "no such folder/file.pages"));
+    assert!(rt;
+        is_not_regular(&rt, ".")
+            && is_not_regular(&rt, "/dev/null")
+            && is_not_found(&rt, "no such folder/file.pages")
+    );
     Ok(())
 }
 
@@ -76,9 +82,11 @@ fn has_a_largest_page<R: Files<File = fs::File>>(rt: &R, path: &str) -> bool {
 #[test]
 fn a_page_of_more_than_4096_bytes_is_refused(rt: HostRuntime) -> Result<(), Fail> {
     let _ = fs::remove_file(&rt, "large.pages");
-    assert!(rt; is_page_too_large(&rt, "large.pages"));
-    assert!(rt; !fs::exists(&rt, "large.pages")?);
-    assert!(rt; has_a_largest_page(&rt, "large.pages"));
+    assert!(rt;
+        is_page_too_large(&rt, "large.pages")
+            && !fs::exists(&rt, "large.pages")?
+            && has_a_largest_page(&rt, "large.pages")
+    );
     Ok(fs::remove_file(&rt, "large.pages")?)
 }
 
@@ -97,8 +105,11 @@ fn a_fault_is_told_with_the_cause_of_the_system(rt: HostRuntime) -> Result<(), F
     let none_told = "the file can't be opened: No such file or directory (os error 2)";
     let full = FileOpenFault::Sizing(io::Error::from_raw_os_error(27));
     let full_told = "the length of the file can't be set: File too large (os error 27)";
-    assert!(rt; is_told(alloc, none, none_told) && is_told(alloc, full, full_told));
-    assert!(rt; is_told(alloc, FileOpenFault::InUse, "the file is in use"));
-    assert!(rt; is_told(alloc, FileOpenFault::NotRegular, "it is no regular file"));
+    assert!(rt;
+        is_told(alloc, none, none_told)
+            && is_told(alloc, full, full_told)
+            && is_told(alloc, FileOpenFault::InUse, "the file is in use")
+            && is_told(alloc, FileOpenFault::NotRegular, "it is no regular file")
+    );
     Ok(())
 }

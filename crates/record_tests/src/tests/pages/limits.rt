@@ -20,12 +20,15 @@ fn has_value_fault(alloc: Global, bytes: &[u8], fault: Option<ValueFault>) -> bo
 #[test]
 fn keys_and_values_have_their_limits(rt: HostRuntime) {
     let alloc = rt.alloc();
-    assert!(rt; has_key_fault(alloc, &[], Some(KeyFault::KeyEmpty)));
-    assert!(rt; has_key_fault(alloc, &[0x61; 255], None));
-    assert!(rt; has_key_fault(alloc, &[0x61; 256], Some(KeyFault::KeyTooLong)));
-    assert!(rt; has_value_fault(alloc, &[0x78; 2048], None));
-    assert!(rt; has_value_fault(alloc, &[0x78; 2049], Some(ValueFault::ValueTooLong)));
-    assert!(rt; Prediction::new(7).is_some() && Prediction::new(8).is_none());
+    assert!(rt;
+        has_key_fault(alloc, &[], Some(KeyFault::KeyEmpty))
+            && has_key_fault(alloc, &[0x61; 255], None)
+            && has_key_fault(alloc, &[0x61; 256], Some(KeyFault::KeyTooLong))
+            && has_value_fault(alloc, &[0x78; 2048], None)
+            && has_value_fault(alloc, &[0x78; 2049], Some(ValueFault::ValueTooLong))
+            && Prediction::new(7).is_some()
+            && Prediction::new(8).is_none()
+    );
 }
 
 /// Whether the object of key `a` and a value of this many bytes is too large for a page of 256 bytes.
@@ -37,8 +40,7 @@ fn is_large(alloc: Global, value: &[u8]) -> Result<bool, Fail> {
 
 #[test]
 fn objects_have_their_limit(rt: HostRuntime) -> Result<(), Fail> {
-    assert!(rt; !is_large(rt.alloc(), &[0x78; 225])?);
-    assert!(rt; is_large(rt.alloc(), &[0x78; 226])?);
+    assert!(rt; !is_large(rt.alloc(), &[0x78; 225])? && is_large(rt.alloc(), &[0x78; 226])?);
     Ok(())
 }
 
@@ -54,8 +56,7 @@ fn fits_alone(alloc: Global, value: &[u8]) -> Result<bool, Fail> {
 
 #[test]
 fn a_record_may_fill_its_page(rt: HostRuntime) -> Result<(), Fail> {
-    assert!(rt; fits_alone(rt.alloc(), &[0x78; 225])?);
-    assert!(rt; !fits_alone(rt.alloc(), &[0x78; 226])?);
+    assert!(rt; fits_alone(rt.alloc(), &[0x78; 225])? && !fits_alone(rt.alloc(), &[0x78; 226])?);
     Ok(())
 }
 
@@ -79,8 +80,14 @@ fn copies_are_alike(rt: HostRuntime) -> Result<(), Fail> {
 
 #[test]
 fn a_value_lives_before_its_moment(rt: HostRuntime) {
-    assert!(rt; is_live(10, 9) && !is_live(10, 10) && !is_live(10, 11));
-    assert!(rt; !is_live(0, 0));
-    assert!(rt; !is_live(NEVER - 1, NEVER - 1) && !is_live(NEVER - 1, NEVER));
-    assert!(rt; is_live(NEVER, 0) && is_live(NEVER, NEVER));
+    assert!(rt;
+        is_live(10, 9)
+            && !is_live(10, 10)
+            && !is_live(10, 11)
+            && !is_live(0, 0)
+            && !is_live(NEVER - 1, NEVER - 1)
+            && !is_live(NEVER - 1, NEVER)
+            && is_live(NEVER, 0)
+            && is_live(NEVER, NEVER)
+    );
 }

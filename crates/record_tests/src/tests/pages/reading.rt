@@ -39,11 +39,9 @@ fn is_the_log_page(page: &[u8; 256], value_len: usize, expires: u64) -> bool {
 #[test]
 fn pages_of_one_record_are_read(rt: HostRuntime) {
     let page = page_of::<256>(&SET_ROW);
-    assert!(rt; is_the_set_page(&page, 2, NEVER));
-    assert!(rt; LogPage::read(&page).is_none());
+    assert!(rt; is_the_set_page(&page, 2, NEVER) && LogPage::read(&page).is_none());
     let page = page_of::<256>(&LOG_ROW);
-    assert!(rt; is_the_log_page(&page, 2, EXPIRES));
-    assert!(rt; SetPage::read(&page).is_none());
+    assert!(rt; is_the_log_page(&page, 2, EXPIRES) && SetPage::read(&page).is_none());
 }
 
 // Records of a page of the oldest form never expire.
@@ -51,11 +49,9 @@ fn pages_of_one_record_are_read(rt: HostRuntime) {
 fn pages_of_the_older_forms_are_read(rt: HostRuntime) {
     assert!(rt; is_the_set_page(&page_of::<256>(&FORMER_SET_ROW), 2, EXPIRES));
     let page = page_of::<256>(&LASTING_SET_ROW);
-    assert!(rt; is_the_set_page(&page, 2, NEVER));
-    assert!(rt; LogPage::read(&page).is_none());
+    assert!(rt; is_the_set_page(&page, 2, NEVER) && LogPage::read(&page).is_none());
     let page = page_of::<256>(&LASTING_LOG_ROW);
-    assert!(rt; is_the_log_page(&page, 2, NEVER));
-    assert!(rt; SetPage::read(&page).is_none());
+    assert!(rt; is_the_log_page(&page, 2, NEVER) && SetPage::read(&page).is_none());
 }
 
 /// Whether the page of a row with one byte changed is refused.
@@ -92,13 +88,15 @@ ghost use Rattle.std.specs.Prelude.{◌<◌, ◌≤◌, length};
 
 #[test]
 fn pages_that_are_no_text_are_refused(rt: HostRuntime) {
-    assert!(rt; are_refused::<256>(&SET_ROW, 18, 33));
-    assert!(rt; are_refused::<4096>(&SET_ROW, 18, 33));
-    assert!(rt; are_refused::<256>(&LOG_ROW, 16, 31));
-    assert!(rt; are_refused::<4096>(&LOG_ROW, 16, 31));
-    assert!(rt; are_refused::<256>(&FORMER_SET_ROW, 18, 33));
-    assert!(rt; are_refused::<256>(&LASTING_SET_ROW, 18, 25));
-    assert!(rt; are_refused::<256>(&LASTING_LOG_ROW, 16, 23));
+    assert!(rt;
+        are_refused::<256>(&SET_ROW, 18, 33)
+            && are_refused::<4096>(&SET_ROW, 18, 33)
+            && are_refused::<256>(&LOG_ROW, 16, 31)
+            && are_refused::<4096>(&LOG_ROW, 16, 31)
+            && are_refused::<256>(&FORMER_SET_ROW, 18, 33)
+            && are_refused::<256>(&LASTING_SET_ROW, 18, 25)
+            && are_refused::<256>(&LASTING_LOG_ROW, 16, 23)
+    );
 }
 
 /// Whether a set page with a value of this many bytes, all zero, is read.
@@ -127,12 +125,14 @@ fn reads_a_lasting_value_of(len: u8) -> bool {
 // it.
 #[test]
 fn values_have_their_greatest_length(rt: HostRuntime) {
-    assert!(rt; reads_a_value_of(0x08, 0x00));
-    assert!(rt; !reads_a_value_of(0x08, 0x01));
-    assert!(rt; reads_up_to(227));
-    assert!(rt; !reads_up_to(228));
-    assert!(rt; reads_a_lasting_value_of(235));
-    assert!(rt; !reads_a_lasting_value_of(236));
+    assert!(rt;
+        reads_a_value_of(0x08, 0x00)
+            && !reads_a_value_of(0x08, 0x01)
+            && reads_up_to(227)
+            && !reads_up_to(228)
+            && reads_a_lasting_value_of(235)
+            && !reads_a_lasting_value_of(236)
+    );
 }
 
 /// A page with this head and this many records, each of these bytes.
@@ -189,9 +189,11 @@ fn is_log_limit(row: &[u8], repeated: &[u8], count: u8) -> bool
 // Records of 13 bytes and of 5 leave room on a page of 4,096 bytes, so that their number alone is too great.
 #[test]
 fn pages_of_each_form_have_their_limit(rt: HostRuntime) {
-    assert!(rt; is_set_limit(&SET_ROW, &SMALL, 128));
-    assert!(rt; is_set_limit(&FORMER_SET_ROW, &SMALL, 64));
-    assert!(rt; is_set_limit(&LASTING_SET_ROW, &LASTING_SMALL, 64));
-    assert!(rt; is_log_limit(&LOG_ROW, &SMALL, 64));
-    assert!(rt; is_log_limit(&LASTING_LOG_ROW, &LASTING_SMALL, 64));
+    assert!(rt;
+        is_set_limit(&SET_ROW, &SMALL, 128)
+            && is_set_limit(&FORMER_SET_ROW, &SMALL, 64)
+            && is_set_limit(&LASTING_SET_ROW, &LASTING_SMALL, 64)
+            && is_log_limit(&LOG_ROW, &SMALL, 64)
+            && is_log_limit(&LASTING_LOG_ROW, &LASTING_SMALL, 64)
+    );
 }

@@ -76,8 +76,10 @@ fn writes_the_log_page(record: &Record) -> bool {
 
 #[test]
 fn one_record_is_written_by_a_writer(rt: HostRuntime) -> Result<(), Fail> {
-    assert!(rt; writes_the_set_page(&lasting_record(rt.alloc(), ROW)?));
-    assert!(rt; writes_the_log_page(&record(rt.alloc(), ROW)?));
+    assert!(rt;
+        writes_the_set_page(&lasting_record(rt.alloc(), ROW)?)
+            && writes_the_log_page(&record(rt.alloc(), ROW)?)
+    );
     Ok(())
 }
 
@@ -97,8 +99,9 @@ fn fills_a_page(record: &Record) -> bool {
 // A record of 238 bytes is all that a page of 256 bytes has room for.
 #[test]
 fn a_small_page_has_its_room(rt: HostRuntime) -> Result<(), Fail> {
-    assert!(rt; fills_a_page(&record(rt.alloc(), FULL)?));
-    assert!(rt; !fills_a_page(&record(rt.alloc(), ABOVE)?));
+    assert!(rt;
+        fills_a_page(&record(rt.alloc(), FULL)?) && !fills_a_page(&record(rt.alloc(), ABOVE)?)
+    );
     Ok(())
 }
 
@@ -119,8 +122,10 @@ fn fill_a_large_page(first: &Record, second: &Record) -> bool {
 #[test]
 fn a_large_page_has_its_room(rt: HostRuntime) -> Result<(), Fail> {
     let half = record(rt.alloc(), HALF)?;
-    assert!(rt; fill_a_large_page(&half, &half));
-    assert!(rt; !fill_a_large_page(&half, &record(rt.alloc(), MORE_THAN_HALF)?));
+    assert!(rt;
+        fill_a_large_page(&half, &half)
+            && !fill_a_large_page(&half, &record(rt.alloc(), MORE_THAN_HALF)?)
+    );
     Ok(())
 }
 
@@ -155,9 +160,12 @@ fn small(alloc: Global, count: u8) -> Result<Vec<Record>, Fail> {
 #[test]
 fn a_page_of_each_kind_has_its_limit(rt: HostRuntime) -> Result<(), Fail> {
     let record = record(rt.alloc(), (b"a", b"", 0))?;
-    assert!(rt; pushed(200, &record) == 128 && pushed_to_log(200, &record) == 64);
-    assert!(rt; fits::<4096>(&small(rt.alloc(), 128)?));
-    assert!(rt; !fits::<4096>(&small(rt.alloc(), 129)?));
+    assert!(rt;
+        pushed(200, &record) == 128
+            && pushed_to_log(200, &record) == 64
+            && fits::<4096>(&small(rt.alloc(), 128)?)
+            && !fits::<4096>(&small(rt.alloc(), 129)?)
+    );
     Ok(())
 }
 

@@ -118,10 +118,12 @@ fn gives_from(alloc: Global, number: u32, steps: &[Step]) -> bool {
 #[test]
 fn a_fuse_refuses_by_number(rt: HostRuntime) {
     let alloc = rt.alloc();
-    assert!(rt; gives_at_one(alloc, 2, &SECOND_IS_REFUSED));
-    assert!(rt; gives_at_one(alloc, 0, &NONE_IS_REFUSED));
-    assert!(rt; gives_from(alloc, 2, &SECOND_IS_THE_LAST));
-    assert!(rt; gives_from(alloc, 0, &ALL_ARE_REFUSED));
+    assert!(rt;
+        gives_at_one(alloc, 2, &SECOND_IS_REFUSED)
+            && gives_at_one(alloc, 0, &NONE_IS_REFUSED)
+            && gives_from(alloc, 2, &SECOND_IS_THE_LAST)
+            && gives_from(alloc, 0, &ALL_ARE_REFUSED)
+    );
 }
 
 // Whether two pages give what is written through a fuse that refuses no call, over one that refuses the third.

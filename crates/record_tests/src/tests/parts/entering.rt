@@ -10,11 +10,13 @@ fn admits<P: PreFlash>(policy: &P, word: u32) -> bool {
 #[test]
 fn the_low_bits_of_a_word_decide(rt: HostRuntime) {
     let half = Chance { of_65536: 32768 };
-    assert!(rt; admits(&half, 32767));
-    assert!(rt; admits(&half, 65536));
-    assert!(rt; !admits(&half, 32768));
-    assert!(rt; Chance { of_65536: 65536 }.admit(65535));
-    assert!(rt; !Chance { of_65536: 0 }.admit(0));
+    assert!(rt;
+        admits(&half, 32767)
+            && admits(&half, 65536)
+            && !admits(&half, 32768)
+            && Chance { of_65536: 65536 }.admit(65535)
+            && !Chance { of_65536: 0 }.admit(0)
+    );
 }
 
 /// Whether as many objects for a set, the first with this prediction, are judged so.

@@ -9,8 +9,12 @@ fn a_filter_admits_what_was_added(rt: HostRuntime) {
     let mut filter = Filter::empty();
     assert!(rt; filter.is_empty() && !filter.may_hold(first));
     filter.add(first);
-    assert!(rt; !filter.is_empty() && filter.may_hold(first));
-    assert!(rt; !filter.may_hold(second) && !filter.may_hold([140, 217, 38, 116]));
+    assert!(rt;
+        !filter.is_empty()
+            && filter.may_hold(first)
+            && !filter.may_hold(second)
+            && !filter.may_hold([140, 217, 38, 116])
+    );
     filter.add(second);
     assert!(rt; filter.may_hold(first) && filter.may_hold([140, 232, 255 - 23, 59]));
     filter.clear();

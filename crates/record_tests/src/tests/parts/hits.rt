@@ -7,7 +7,5 @@ fn hits_are_noted_by_place(rt: HostRuntime) {
     assert!(rt; !hits.has(127));
     hits.set(127);
     hits.set(0);
-    assert!(rt; hits.has(127));
-    assert!(rt; hits.has(0));
-    assert!(rt; !hits.has(63));
+    assert!(rt; hits.has(127) && hits.has(0) && !hits.has(63));
 }

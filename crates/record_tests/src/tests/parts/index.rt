@@ -1,96 +1,46 @@
 //! An index with a few entries, by each of its calls.
-ghost use Rattle.std.specs.Prelude.{◌≡◌, ◌<◌, ◌≤◌};
+//!
+//! An entry is told as `set SET TAG at SEGMENT PAGE SLOT PREDICTION`, or `none` if there is none.
+ghost use Rattle.std.specs.Prelude.{◌≡◌, ◌<◌, ◌≤◌, ⊤};
+ghost use Rattle.klog_index.specs.Entries.{Entries};
 
-mod which;
 mod whole;
 
-use self::which::Which;
-use klog_index::{EntriesOf, Entry, LogIndex, Place};
+use klog_index::{Entry, LogIndex, Place};
 use record_pages::Prediction;
 use std::alloc::Global;
+use std::marker::Model;
 use std::test::Fail;
+use test_devices::{Scripted, Step, is, run_text};
 
-/// What is to be seen of an index.
-#[derive(Clone, Copy)]
-enum Look {
-    /// How many entries there are, and whether there is room for one more.
-    Len(usize, bool),
-    Count(u32, usize),
-    OfSet(u32, usize, Option<Seen>),
-    Find(u32, u16, usize, Option<Seen>),
-    Oldest(Option<Seen>),
-    /// Of a segment, if some sets are passed over.
-    FirstOf(u16, &'static [u32], Option<Seen>),
-    OldestBut(u16, &'static [u32], Option<Seen>),
-    /// The entries that a walk over a set gives.
-    Walk(u32, &'static [Seen]),
+/// An index of as many sets as there may be.
+#[derive(Drop)]
+struct Owner {
+    index: LogIndex,
 }
 
-/// An entry: its set and tag, the segment, page and slot of its place, and its prediction.
-#[derive(Clone, Copy)]
-struct Seen(u32, u16, u16, u8, u8, u8);
+impl Model for Owner {
+    ghost Value = { Entries };
 
-fn is_seen(entry: Option<Entry>, seen: Option<Seen>) -> bool {
-    match (entry, seen) {
-        (Some(entry), Some(seen)) => is_entry(&entry, &seen),
-        (None, None) => true,
-        _ => false,
-    }
+    ghost view = { λ o. o.index };
+
+    ghost invariant = { λ o. o.index.sets ≡ 65536 };
 }
 
-fn is_entry(entry: &Entry, seen: &Seen) -> bool {
-    entry.set == seen.0
-        && entry.tag == seen.1
-        && entry.place.segment == seen.2
-        && entry.place.page == seen.3
-        && entry.place.slot == seen.4
-        && entry.prediction.get() == seen.5
-}
+impl Scripted for Owner {
+    ghost use Rattle.std.specs.Prelude.{⊤};
 
-fn shows(index: &LogIndex, look: &Look) -> bool {
-    match look {
-        Look::Len(len, room) => {
-            index.len() == *len && index.is_empty() == (*len == 0) && index.is_full() != *room
+    ghost can_act = { ⊤ };
+
+    fn act(&mut self, _alloc: Global, step: &mut Step<'_>) -> Result<(), Fail> {
+        let word = step.word();
+        if is(word, b"add") {
+            add(&mut self.index, step);
+        } else if !changes(&mut self.index, word, step) {
+            look(&self.index, word, step);
         }
-        Look::Count(set, count) => index.count(*set) == *count,
-        Look::OfSet(set, skip, seen) => is_seen(index.of_set(*set, *skip), *seen),
-        Look::Find(set, tag, skip, seen) => is_seen(index.find(*set, *tag, *skip), *seen),
-        Look::Oldest(seen) => is_seen(index.oldest(), *seen),
-        Look::FirstOf(segment, sets, seen) => is_seen(index.first_of(*segment, sets), *seen),
-        Look::OldestBut(segment, sets, seen) => is_seen(index.oldest_but(*segment, sets), *seen),
-        Look::Walk(set, seen) => gives(index.entries_of(*set), seen),
+        Ok(())
     }
-}
-
-// Whether a walk gives just these entries, and no more when it is asked again.
-fn gives(mut walk: EntriesOf<'_>, seen: &[Seen]) -> bool {
-    for wanted in seen {
-        if !is_seen(walk.next(), Some(*wanted)) {
-            return false;
-        }
-    }
-    walk.next().is_none() && walk.next().is_none()
-}
-
-// The number of the first look that shows something else than is written.
-fn strayed(index: &LogIndex, looks: &[Look]) -> Option<usize> {
-    for number in 0..looks.len() {
-        if !shows(index, &looks[number]) {
-            return Some(number);
-        }
-    }
-    None
-}
-
-/// A call of an index, and what it gives.
-#[derive(Clone, Copy)]
-enum Step {
-    /// An entry is added, at a place that is free then: whether there is room.
-    Add(Seen, bool),
-    Drop(Which),
-    Lower(Which),
-    /// What is to be seen.
-    Looks(&'static [Look]),
 }
 
 // Adds an entry at a place, which is made free before, and says whether there was room.
@@ -105,259 +55,240 @@ fn enters(index: &mut LogIndex, set: u32, tag: u16, place: Place, prediction: Pr
     index.add(set, tag, place, prediction).is_ok()
 }
 
-// Adds the entry that is to be seen.
-fn adds(index: &mut LogIndex, seen: &Seen) -> bool
+// Adds the entry that a step tells, as the numbers of an entry stand, and tells whether there was room.
+fn add(index: &mut LogIndex, step: &mut Step<'_>)
     requires { index.old.sets ≡ 65536 }
     ensures { index.new.sets ≡ 65536 }
 {
-    let Some(prediction) = Prediction::new(seen.5) else {
-        return false;
-    };
+    let set = step.small() % 65536;
+    let tag = half(step);
+    let place = place_of(step);
     let place = Place {
-        segment: seen.2 % 258,
-        page: seen.3 % 64,
-        slot: seen.4 % 64,
+        segment: place.segment % 258,
+        page: place.page % 64,
+        slot: place.slot % 64,
     };
-    enters(index, seen.0 % 65536, seen.1, place, prediction)
+    let prediction = Prediction::new(byte(step)).unwrap_or(Prediction::new(0).unwrap());
+    let entered = enters(index, set, tag, place, prediction);
+    step.tell(if entered { b"added" } else { b"full" });
 }
 
-fn drops(index: &mut LogIndex, which: Which)
+fn half(step: &mut Step<'_>) -> u16 {
+    (step.small() % 65536) as u16
+}
+
+fn byte(step: &mut Step<'_>) -> u8 {
+    (step.small() % 256) as u8
+}
+
+fn place_of(step: &mut Step<'_>) -> Place {
+    Place {
+        segment: half(step),
+        page: byte(step),
+        slot: byte(step),
+    }
+}
+
+// Makes a call that drops or lowers entries, if the word names one, and says whether it does.
+fn changes(index: &mut LogIndex, word: &[u8], step: &mut Step<'_>) -> bool
     ensures { index.new.sets ≡ index.old.sets }
 {
-    match which {
-        Which::OfTag(set, tag) => index.drop_tag(set, tag),
-        Which::At(place) => index.drop_at(place),
-        Which::In(set, place) => index.drop_in(set, place),
-        Which::OnPage(segment, page) => index.drop_page(segment, page),
-        Which::OfSet(_) => (),
+    if is(word, b"drop-tag") {
+        let set = step.small();
+        index.drop_tag(set, half(step));
+    } else if is(word, b"drop-at") {
+        index.drop_at(place_of(step));
+    } else if is(word, b"drop-in") {
+        let set = step.small();
+        index.drop_in(set, place_of(step));
+    } else if is(word, b"drop-page") {
+        let segment = half(step);
+        index.drop_page(segment, byte(step));
+    } else if is(word, b"lower") {
+        index.lower(place_of(step));
+    } else if is(word, b"lower-in") {
+        let set = step.small();
+        index.lower_in(set, place_of(step));
+    } else {
+        return false;
+    }
+    true
+}
+
+// Makes a call that changes nothing, and tells what it gives.
+fn look(index: &LogIndex, word: &[u8], step: &mut Step<'_>) {
+    if is(word, b"len") {
+        tell_len(index, step);
+    } else if is(word, b"count") {
+        let count = index.count(step.small());
+        step.tell_number(count as u64);
+    } else if is(word, b"walk") {
+        tell_walk(index, step);
+    } else {
+        let entry = found(index, word, step);
+        tell_entry(entry, step);
     }
 }
 
-fn lowers(index: &mut LogIndex, which: Which)
-    ensures { index.new.sets ≡ index.old.sets }
-{
-    match which {
-        Which::At(place) => index.lower(place),
-        Which::In(set, place) => index.lower_in(set, place),
-        _ => (),
+// How many entries there are, `empty` if there is none, and whether there is room for one more.
+fn tell_len(index: &LogIndex, step: &mut Step<'_>) {
+    step.tell_number(index.len() as u64);
+    if index.is_empty() {
+        step.tell(b"empty");
+    }
+    step.tell(if index.is_full() { b"full" } else { b"room" });
+}
+
+// The entries that a walk over a set gives, and `end` if it gives no more when it is asked again.
+fn tell_walk(index: &LogIndex, step: &mut Step<'_>) {
+    let mut walk = index.entries_of(step.small());
+    for _ in 0..8usize {
+        let Some(entry) = walk.next() else {
+            break;
+        };
+        tell_entry(Some(entry), step);
+    }
+    if walk.next().is_none() {
+        step.tell(b"end");
     }
 }
 
-// Whether a step gives what is written beside it.
-fn does(index: &mut LogIndex, step: &Step) -> bool
-    requires { index.old.sets ≡ 65536 }
-    ensures { index.new.sets ≡ 65536 }
-{
-    match step {
-        Step::Add(seen, room) => adds(index, seen) == *room,
-        Step::Drop(which) => {
-            drops(index, *which);
-            true
-        }
-        Step::Lower(which) => {
-            lowers(index, *which);
-            true
-        }
-        Step::Looks(looks) => strayed(index, looks).is_none(),
+// The entry that a call gives.
+fn found(index: &LogIndex, word: &[u8], step: &mut Step<'_>) -> Option<Entry> {
+    if is(word, b"of-set") {
+        let set = step.small();
+        return index.of_set(set, step.small() as usize);
     }
+    if is(word, b"find") {
+        let set = step.small();
+        let tag = half(step);
+        return index.find(set, tag, step.small() as usize);
+    }
+    if is(word, b"first-of") {
+        let segment = half(step);
+        return index.first_of(segment, step.numbers().as_slice());
+    }
+    if is(word, b"oldest-but") {
+        let segment = half(step);
+        return index.oldest_but(segment, step.numbers().as_slice());
+    }
+    if !is(word, b"oldest") {
+        step.refuse();
+    }
+    index.oldest()
 }
 
-// The number of the first step of an empty index for this many entries that gives something else than is written.
-fn run(alloc: Global, limit: u32, steps: &[Step]) -> Result<Option<usize>, Fail>
+fn tell_entry(entry: Option<Entry>, step: &mut Step<'_>) {
+    let Some(entry) = entry else {
+        step.tell(b"none");
+        return;
+    };
+    step.tell(b"set");
+    step.tell_number(u64::from(entry.set));
+    step.tell_number(u64::from(entry.tag));
+    step.tell(b"at");
+    step.tell_number(u64::from(entry.place.segment));
+    step.tell_number(u64::from(entry.place.page));
+    step.tell_number(u64::from(entry.place.slot));
+    step.tell_number(u64::from(entry.prediction.get()));
+}
+
+// Makes the calls of a text, of an empty index for this many entries.
+fn play(alloc: Global, limit: u32, text: &[u8]) -> Result<(), Fail>
     requires { limit ≤ 1048576 }
 {
-    let mut index = LogIndex::open(alloc, 65536, limit)?;
-    for number in 0..steps.len() {
-        if !does(&mut index, &steps[number]) {
-            return Ok(Some(number));
-        }
-    }
-    Ok(None)
+    let index = LogIndex::open(alloc, 65536, limit)?;
+    let mut owner = Owner { index };
+    run_text(alloc, &mut owner, text)
 }
 
-const OLDER: Seen = Seen(2, 9, 257, 1, 1, 6);
-
-const NEWER: Seen = Seen(2, 8, 7, 1, 0, 6);
-
-const OF_OLDER: Place = Place {
-    segment: 257,
-    page: 1,
-    slot: 1,
-};
-
-const OF_NEWER: Place = Place {
-    segment: 7,
-    page: 1,
-    slot: 0,
-};
-
-const BOTH: [Look; 10] = [
-    Look::Len(2, true),
-    Look::Count(2, 2),
-    Look::OfSet(2, 0, Some(NEWER)),
-    Look::OfSet(2, 1, Some(OLDER)),
-    Look::OfSet(2, 2, None),
-    Look::Oldest(Some(OLDER)),
-    Look::Find(2, 9, 0, Some(OLDER)),
-    Look::Find(2, 9, 1, None),
-    Look::FirstOf(257, &[], Some(OLDER)),
-    Look::FirstOf(8, &[], None),
-];
-
 // They stand newest first, and are dropped by kind.
-const OF_TWO: [Step; 12] = [
-    Step::Add(OLDER, true),
-    Step::Add(NEWER, true),
-    Step::Looks(&BOTH),
-    Step::Drop(Which::OfTag(2, 7)),
-    Step::Drop(Which::In(3, OF_NEWER)),
-    Step::Drop(Which::OnPage(7, 0)),
-    Step::Drop(Which::At(Place {
-        slot: 2,
-        ..OF_OLDER
-    })),
-    Step::Looks(&BOTH),
-    Step::Drop(Which::In(2, OF_NEWER)),
-    Step::Looks(&[Look::Len(1, true), Look::Oldest(Some(OLDER))]),
-    Step::Drop(Which::OfTag(2, 9)),
-    Step::Looks(&[Look::Len(0, true)]),
-];
+const OF_TWO: &[u8] = b"
+    add 2 9 257 1 1 6 added; add 2 8 7 1 0 6 added
+    len 2 room; count 2 2
+    of-set 2 0 set 2 8 at 7 1 0 6; of-set 2 1 set 2 9 at 257 1 1 6; of-set 2 2 none
+    oldest set 2 9 at 257 1 1 6; find 2 9 0 set 2 9 at 257 1 1 6; find 2 9 1 none
+    first-of 257 set 2 9 at 257 1 1 6; first-of 8 none
+    drop-tag 2 7; drop-in 3 7 1 0; drop-page 7 0; drop-at 257 1 2
+    len 2 room; count 2 2
+    of-set 2 0 set 2 8 at 7 1 0 6; of-set 2 1 set 2 9 at 257 1 1 6; of-set 2 2 none
+    oldest set 2 9 at 257 1 1 6; find 2 9 0 set 2 9 at 257 1 1 6; find 2 9 1 none
+    first-of 257 set 2 9 at 257 1 1 6; first-of 8 none
+    drop-in 2 7 1 0
+    len 1 room; oldest set 2 9 at 257 1 1 6
+    drop-tag 2 9
+    len 0 empty room
+";
 
-const WITHOUT_A_PAGE: [Step; 4] = [
-    Step::Add(OLDER, true),
-    Step::Add(NEWER, true),
-    Step::Drop(Which::OnPage(257, 1)),
-    Step::Looks(&[Look::Len(1, true), Look::Oldest(Some(NEWER))]),
-];
+const WITHOUT_A_PAGE: &[u8] = b"
+    add 2 9 257 1 1 6 added; add 2 8 7 1 0 6 added
+    drop-page 257 1
+    len 1 room; oldest set 2 8 at 7 1 0 6
+";
 
 // Room for three entries, of which two are of set 2 and one, the second, is of set 3.
-const OF_TWO_SETS: [Step; 4] = [
-    Step::Add(Seen(2, 9, 1, 1, 0, 6), true),
-    Step::Add(Seen(3, 9, 1, 1, 1, 6), true),
-    Step::Add(Seen(2, 9, 1, 1, 2, 6), true),
-    Step::Looks(&[
-        Look::Len(3, false),
-        Look::Oldest(Some(Seen(2, 9, 1, 1, 0, 6))),
-        Look::Walk(2, &[Seen(2, 9, 1, 1, 2, 6), Seen(2, 9, 1, 1, 0, 6)]),
-        Look::Walk(1, &[]),
-    ]),
-];
-
-const OLDEST: Option<Seen> = Some(Seen(2, 7, 5, 1, 4, 6));
-
-const OF_SET_3: Option<Seen> = Some(Seen(3, 8, 5, 1, 9, 6));
-
-const LEAST: Option<Seen> = Some(Seen(2, 9, 5, 1, 0, 6));
-
-const OF_SEGMENT_6: Option<Seen> = Some(Seen(1, 7, 6, 1, 2, 6));
-
-// With no set as `oldest` if that is of the segment; sets that have no entry of the segment change nothing; one whose
-// entry is the oldest gives the next one; all of them give none, though the next segment has an entry of another set.
-const PASSED_OVER: [Look; 14] = [
-    Look::Oldest(OLDEST),
-    Look::OldestBut(5, &[], OLDEST),
-    Look::OldestBut(5, &[0, 1], OLDEST),
-    Look::OldestBut(5, &[3], OLDEST),
-    Look::OldestBut(5, &[2], OF_SET_3),
-    Look::OldestBut(5, &[2, 3], None),
-    Look::OldestBut(5, &[3, 0, 2], None),
-    Look::OldestBut(6, &[], None),
-    Look::OldestBut(6, &[2, 3], None),
-    Look::FirstOf(5, &[], LEAST),
-    Look::FirstOf(5, &[2, 1], OF_SET_3),
-    Look::FirstOf(5, &[3, 2], None),
-    Look::FirstOf(6, &[3, 2], OF_SEGMENT_6),
-    Look::FirstOf(6, &[1], None),
-];
-
-const PASSED_OVER_IN_THE_NEXT: [Look; 4] = [
-    Look::OldestBut(5, &[], None),
-    Look::OldestBut(6, &[], OF_SEGMENT_6),
-    Look::OldestBut(6, &[3, 2], OF_SEGMENT_6),
-    Look::OldestBut(6, &[1], None),
-];
+const OF_TWO_SETS: &[u8] = b"
+    add 2 9 1 1 0 6 added; add 3 9 1 1 1 6 added; add 2 9 1 1 2 6 added
+    len 3 full; oldest set 2 9 at 1 1 0 6
+    walk 2 set 2 9 at 1 1 2 6 set 2 9 at 1 1 0 6 end; walk 1 end
+";
 
 // Oldest first: an entry of set 2, one of set 3 and one of set 2 of segment 5, then one of set 1 of segment 6.
-const OF_TWO_SEGMENTS: [Step; 8] = [
-    Step::Looks(&[
-        Look::OldestBut(5, &[], None),
-        Look::OldestBut(5, &[2], None),
-    ]),
-    Step::Add(Seen(2, 7, 5, 1, 4, 6), true),
-    Step::Add(Seen(3, 8, 5, 1, 9, 6), true),
-    Step::Add(Seen(2, 9, 5, 1, 0, 6), true),
-    Step::Add(Seen(1, 7, 6, 1, 2, 6), true),
-    Step::Looks(&PASSED_OVER),
-    Step::Drop(Which::OnPage(5, 1)),
-    Step::Looks(&PASSED_OVER_IN_THE_NEXT),
-];
+// With no set as `oldest` if that is of the segment; sets that have no entry of the segment change nothing; one whose
+// entry is the oldest gives the next one; all of them give none, though the next segment has an entry of another set.
+const OF_TWO_SEGMENTS: &[u8] = b"
+    oldest-but 5 none; oldest-but 5 2 none
+    add 2 7 5 1 4 6 added; add 3 8 5 1 9 6 added; add 2 9 5 1 0 6 added; add 1 7 6 1 2 6 added
+    oldest set 2 7 at 5 1 4 6
+    oldest-but 5 set 2 7 at 5 1 4 6; oldest-but 5 0 1 set 2 7 at 5 1 4 6; oldest-but 5 3 set 2 7 at 5 1 4 6
+    oldest-but 5 2 set 3 8 at 5 1 9 6; oldest-but 5 2 3 none; oldest-but 5 3 0 2 none
+    oldest-but 6 none; oldest-but 6 2 3 none
+    first-of 5 set 2 9 at 5 1 0 6; first-of 5 2 1 set 3 8 at 5 1 9 6; first-of 5 3 2 none
+    first-of 6 3 2 set 1 7 at 6 1 2 6; first-of 6 1 none
+    drop-page 5 1
+    oldest-but 5 none; oldest-but 6 set 1 7 at 6 1 2 6; oldest-but 6 3 2 set 1 7 at 6 1 2 6; oldest-but 6 1 none
+";
 
 // The widest numbers that an entry may have.
-const WIDEST: Seen = Seen(65535, 65535, 257, 63, 63, 7);
+const OF_ONE: &[u8] = b"
+    add 65535 65535 257 63 63 7 added; add 0 0 0 1 0 7 full
+    len 1 full; find 65535 65535 0 set 65535 65535 at 257 63 63 7; find 65535 65535 1 none
+    oldest set 65535 65535 at 257 63 63 7
+    lower 257 63 63; lower-in 65535 257 63 63
+    len 1 full; find 65535 65535 0 set 65535 65535 at 257 63 63 5
+";
 
-const OF_WIDEST: Place = Place {
-    segment: 257,
-    page: 63,
-    slot: 63,
-};
-
-const LOW: Option<Seen> = Some(Seen(65535, 65535, 257, 63, 63, 5));
-
-const EMPTIED: [Look; 3] = [
-    Look::Len(0, true),
-    Look::Find(65535, 65535, 0, None),
-    Look::Oldest(None),
-];
-
-const OF_ONE: [Step; 6] = [
-    Step::Add(WIDEST, true),
-    Step::Add(Seen(0, 0, 0, 1, 0, 7), false),
-    Step::Looks(&[
-        Look::Len(1, false),
-        Look::Find(65535, 65535, 0, Some(WIDEST)),
-        Look::Find(65535, 65535, 1, None),
-        Look::Oldest(Some(WIDEST)),
-    ]),
-    Step::Lower(Which::At(OF_WIDEST)),
-    Step::Lower(Which::In(65535, OF_WIDEST)),
-    Step::Looks(&[Look::Len(1, false), Look::Find(65535, 65535, 0, LOW)]),
-];
-
-const LOWERED_TO_0: [Step; 6] = [
-    Step::Add(Seen(65535, 65535, 257, 63, 63, 1), true),
-    Step::Lower(Which::At(OF_WIDEST)),
-    Step::Lower(Which::In(65535, OF_WIDEST)),
-    Step::Looks(&[
-        Look::Len(1, false),
-        Look::Find(65535, 65535, 0, Some(Seen(65535, 65535, 257, 63, 63, 0))),
-    ]),
-    Step::Drop(Which::At(OF_WIDEST)),
-    Step::Looks(&EMPTIED),
-];
+const LOWERED_TO_0: &[u8] = b"
+    add 65535 65535 257 63 63 1 added
+    lower 257 63 63; lower-in 65535 257 63 63
+    len 1 full; find 65535 65535 0 set 65535 65535 at 257 63 63 0
+    drop-at 257 63 63
+    len 0 empty room; find 65535 65535 0 none; oldest none
+";
 
 /// The room of an index, and its steps.
 #[derive(Clone, Copy)]
-struct Case(u8, &'static [Step]);
+struct Case(u8, &'static [u8]);
 
 static CASES: [Case; 6] = [
     // entries stand newest first and are dropped by kind
-    Case(3, &OF_TWO),
+    Case(3, OF_TWO),
     // a page is dropped
-    Case(3, &WITHOUT_A_PAGE),
+    Case(3, WITHOUT_A_PAGE),
     // a walk gives the entries of one set
-    Case(3, &OF_TWO_SETS),
+    Case(3, OF_TWO_SETS),
     // some sets are passed over
-    Case(8, &OF_TWO_SEGMENTS),
+    Case(8, OF_TWO_SEGMENTS),
     // the entry past the limit is refused
-    Case(1, &OF_ONE),
+    Case(1, OF_ONE),
     // the widest entry is lowered to 0 and dropped
-    Case(1, &LOWERED_TO_0),
+    Case(1, LOWERED_TO_0),
 ];
 
 #[test]
 fn each_step_gives_what_is_written(rt: HostRuntime) -> Result<(), Fail> {
     for case in &CASES {
-        assert!(rt; run(rt.alloc(), u32::from(case.0), case.1)?.is_none());
+        play(rt.alloc(), u32::from(case.0), case.1)?;
     }
     Ok(())
 }

@@ -36,6 +36,9 @@ fn memory_bytes(wanted: &Wanted) -> u64
 #[test]
 fn the_least_flash_has_a_layout(rt: HostRuntime) {
     let wanted = wanted((12_288, 36_040, 2303, 1));
-    assert!(rt; layout(&wanted).is_some());
-    assert!(rt; file_bytes(&wanted) == 12_288 && memory_bytes(&wanted) == 36_040);
+    assert!(rt;
+        layout(&wanted).is_some()
+            && file_bytes(&wanted) == 12_288
+            && memory_bytes(&wanted) == 36_040
+    );
 }

@@ -75,6 +75,8 @@ fn is_told(alloc: Global, fault: SizeFault, words: &str) -> bool {
 #[test]
 fn a_fault_names_its_field(rt: HostRuntime) {
     let fault = SizeFault::MemoryTooSmall;
-    assert!(rt; fault.field() == "memory_bytes");
-    assert!(rt; is_told(rt.alloc(), fault, "memory_bytes is too small for the lanes"));
+    assert!(rt;
+        fault.field() == "memory_bytes"
+            && is_told(rt.alloc(), fault, "memory_bytes is too small for the lanes")
+    );
 }

@@ -46,8 +46,7 @@ fn the_greatest_shape_has_its_sizes(rt: HostRuntime) {
         memory: MAX_MEMORY,
         lease_slots: MAX_LEASE_SLOTS,
     };
-    assert!(rt; counts(&shape) == [16_384, 16_384, 81_920]);
-    assert!(rt; are_met(&shape, &OF_THE_GREATEST));
+    assert!(rt; counts(&shape) == [16_384, 16_384, 81_920] && are_met(&shape, &OF_THE_GREATEST));
 }
 
 // The log has room for 72 objects, and entries for 8.
@@ -65,6 +64,5 @@ fn a_log_holds_as_many_as_its_index(rt: HostRuntime) {
         memory: 4,
         lease_slots: 1,
     };
-    assert!(rt; counts(&shape) == [1, 2, 6]);
-    assert!(rt; are_met(&shape, &OF_A_SMALL_ONE));
+    assert!(rt; counts(&shape) == [1, 2, 6] && are_met(&shape, &OF_A_SMALL_ONE));
 }

@@ -132,8 +132,7 @@ fn are_one_put(alloc: Global, bytes: &[u8]) -> bool {
 
 #[test]
 fn one_put_is_read_and_written_again(rt: HostRuntime) {
-    assert!(rt; are_one_put(rt.alloc(), &ONE_PUT));
-    assert!(rt; are_one_put(rt.alloc(), &TIMED_PUT));
+    assert!(rt; are_one_put(rt.alloc(), &ONE_PUT) && are_one_put(rt.alloc(), &TIMED_PUT));
 }
 
 /// Whether a call has this caller, these stamps and this key.
@@ -188,16 +187,16 @@ fn have_each_kind(alloc: Global, bytes: &[u8], expires: u64, moment: u64) -> boo
 
 #[test]
 fn each_kind_is_read_and_written_again(rt: HostRuntime) -> Result<(), Fail> {
-    assert!(rt; have_each_kind(rt.alloc(), &EACH_KIND, u64::MAX, 0));
     assert!(rt;
-        have_each_kind(
-            rt.alloc(),
-            &TIMED_KINDS,
-            0x0102_0304_0506_0708,
-            0x090a_0b0c_0d0e_0f10
-        )
+        have_each_kind(rt.alloc(), &EACH_KIND, u64::MAX, 0)
+            && have_each_kind(
+                rt.alloc(),
+                &TIMED_KINDS,
+                0x0102_0304_0506_0708,
+                0x090a_0b0c_0d0e_0f10
+            )
+            && come_back(rt.alloc(), &TIMED_KINDS, 4)?
     );
-    assert!(rt; come_back(rt.alloc(), &TIMED_KINDS, 4)?);
     Ok(())
 }
 
@@ -215,8 +214,11 @@ fn are_cuts_told(alloc: Global, whole: &[u8]) -> bool {
 #[test]
 fn a_trace_cut_anywhere_is_truncated_there(rt: HostRuntime) {
     let alloc = rt.alloc();
-    assert!(rt; are_cuts_told(alloc, &ONE_PUT) && are_cuts_told(alloc, &TIMED_PUT));
-    assert!(rt; are_cuts_told(alloc, &EMPTY));
+    assert!(rt;
+        are_cuts_told(alloc, &ONE_PUT)
+            && are_cuts_told(alloc, &TIMED_PUT)
+            && are_cuts_told(alloc, &EMPTY)
+    );
 }
 
 /// A byte that is put at a place of `ONE_PUT`, and the fault that it gives.
@@ -330,9 +332,12 @@ fn fails_there(alloc: Global, most: usize, fails_before: usize) -> bool {
 #[test]
 fn a_failed_read_is_not_tried_again(rt: HostRuntime) {
     let alloc = rt.alloc();
-    assert!(rt; fails_there(alloc, 4096, 0) && fails_there(alloc, 4096, 20));
-    assert!(rt; fails_there(alloc, 1, 40));
-    assert!(rt; fault_before(alloc, 1, usize::MAX).is_none());
+    assert!(rt;
+        fails_there(alloc, 4096, 0)
+            && fails_there(alloc, 4096, 20)
+            && fails_there(alloc, 1, 40)
+            && fault_before(alloc, 1, usize::MAX).is_none()
+    );
 }
 
 fn trace_of(alloc: Global, bytes: &[u8]) -> Result<Trace, TraceFault> {

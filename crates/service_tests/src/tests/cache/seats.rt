@@ -165,7 +165,12 @@ fn found_by_both<L: KeyLanes + Send + Sync, J: BookName + Send + Sync, R: Thread
 {
     let devices = so_many(alloc, LANES, PAGES)?;
     let book = book.with_name::<J>();
-    let cache = Over::<L, J>::open(alloc, &SMALL, 2, 8, devices, Rriparoo, seed, book)?;
+    let options = ServiceOptions {
+        shards: 2,
+        lease_slots: 8,
+        bring_back: 0,
+    };
+    let cache = Over::<L, J>::open(alloc, &SMALL, &options, devices, Rriparoo, seed, book)?;
     finds_first(rt, alloc, &cache)
 }
 

@@ -76,9 +76,12 @@ fn try_booked<
         slots,
     } = numbers;
     let book = book.with_name::<J>();
-    match Cache::<D, L, J>::open(
-        alloc, config, *shards, *slots, devices, Rriparoo, seed, book,
-    ) {
+    let options = ServiceOptions {
+        shards: *shards,
+        lease_slots: *slots,
+        bring_back: 0,
+    };
+    match Cache::<D, L, J>::open(alloc, config, &options, devices, Rriparoo, seed, book) {
         Ok(cache) => Ok(Outcome::Kept(kept(rt, alloc, &cache, text)?)),
         Err(fault) => Ok(Outcome::Refused(fault)),
     }

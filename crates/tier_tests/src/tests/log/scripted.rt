@@ -45,7 +45,7 @@ impl Played {
 
     // Opens a log of the configuration of a step, over a device of zeros with just the pages that it needs.
     fn open(&mut self, alloc: Global, step: &mut Step<'_>) -> Result<(), Fail> {
-        let config = config_of(step);
+        let config = step.config();
         self.owner = Some(opened(alloc, &config, self.refused)?);
         self.refused = NONE_REFUSED;
         Ok(())

@@ -49,7 +49,7 @@ impl Played {
 
     // Opens empty sets of the configuration of a step, over a device of zeros.
     fn open(&mut self, alloc: Global, step: &mut Step<'_>) -> Result<(), Fail> {
-        let layout = layout(&config_of(step))?;
+        let layout = layout(&step.config())?;
         let strikes = self.strikes.unwrap_or(8 * layout.sets);
         self.owner = Some(opened(alloc, &layout, strikes, self.refused)?);
         self.refused = NONE_REFUSED;

@@ -59,7 +59,7 @@ impl Played {
 
     // Opens an empty store of the configuration of a step, over a device of zeros with just the pages that it needs.
     fn open(&mut self, alloc: Global, step: &mut Step<'_>) -> Result<(), Fail> {
-        self.config = config_of(step);
+        self.config = step.config();
         self.store = match self.opened(alloc) {
             Ok(store) => Some(store),
             Err(_) => Some(self.opened(alloc)?),

@@ -126,7 +126,8 @@ fn seen_over(alloc: Global, untrue: &AtomicU32) -> Result<Seen, Fail> {
 fn pages_that_were_never_written_end_no_call(rt: HostRuntime) -> Result<(), Fail> {
     let untrue = AtomicU32::new(0);
     let seen = seen_over(rt.alloc(), &untrue)?;
-    assert!(rt; untrue.load(Ordering::SeqCst) >= 10_000);
-    assert!(rt; seen.hits > 1_000 && seen.damaged > 1_000);
+    assert!(rt;
+        untrue.load(Ordering::SeqCst) >= 10_000 && seen.hits > 1_000 && seen.damaged > 1_000
+    );
     Ok(())
 }

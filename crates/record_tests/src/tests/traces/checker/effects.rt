@@ -141,8 +141,11 @@ fn any_hasher_gives_the_same(rt: HostRuntime) -> Result<(), Fail> {
     let seed = RandomSeed::draw(&rt)?;
     let random = check_with_hasher(alloc, seed, &trace.history, &trace.certificate);
     let one = check_with_hasher(alloc, OneHash, &trace.history, &trace.certificate);
-    assert!(rt; random == Ok(Verdict::Accepted) && one == Ok(Verdict::Accepted));
-    assert!(rt; judges_no_call(alloc, RandomState::new(&rt)?));
+    assert!(rt;
+        random == Ok(Verdict::Accepted)
+            && one == Ok(Verdict::Accepted)
+            && judges_no_call(alloc, RandomState::new(&rt)?)
+    );
     Ok(())
 }
 
