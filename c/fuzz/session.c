@@ -57,13 +57,13 @@ static void close_client(client *of) {
 /* ------------------------------------------------------------------------------------------------------------- steps */
 
 static void step_in_lane(client *of, const ks_wanted *wanted, ks_turn *turn, uint8_t *answer, ks_done *done) {
-    uint32_t is_due = 0;
+    uint32_t is_due;
     kl_lane *lane = &of->lanes[wanted->place.lane];
     kl_step upkeep;
     expect(wanted->place.lane < LANES, "a lane that there is");
     if (wanted->argument != 0) turn->cas = of->cas++;
     of->lane_steps++;
-    ks_lane_step(&of->session, lane, turn, of->unread.at, of->unread.length, answer, KS_MOST_ANSWER, done, &is_due);
+    is_due = ks_lane_step(&of->session, lane, turn, of->unread.at, of->unread.length, answer, KS_MOST_ANSWER, done);
     if (is_due != 0) kl_upkeep_step(lane, &upkeep);
 }
 
