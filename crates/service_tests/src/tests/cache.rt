@@ -18,7 +18,9 @@ use key_hash::RandomSeed;
 use page_device::{MemoryDevice, PageDevice};
 use record_pages::{Config, NEVER, Pushed, PutFault, ValueBuffer};
 use rriparoo::Rriparoo;
-use service_cache::{LookedUp, OpenServiceFault, SeatFault, SeatPutFault, ServiceCache, ServiceOptions};
+use service_cache::{
+    LookedUp, OpenServiceFault, SeatFault, SeatPutFault, ServiceCache, ServiceOptions,
+};
 use service_lane::Filled;
 use std::alloc::Global;
 use std::sync::Wait;
