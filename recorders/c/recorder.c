@@ -88,7 +88,7 @@ int recorder_put(struct recorder *r, const char *caller, struct recorder_bytes k
     int failed = write(with, stored), error = errno;
     uint64_t end = failed ? NEVER_ENDED : now();
     if (!copy) put_line(r, NULL);
-    else note(r, caller, (struct stamps){start, end}, " put ", key, &stored, failed || !lifetime ? 0 : end + lifetime);
+    else if (failed != RECORDER_UNDONE) note(r, caller, (struct stamps){start, end}, " put ", key, &stored, failed || !lifetime ? 0 : end + lifetime);
     free(copy);
     errno = error;
     return failed;
@@ -100,7 +100,7 @@ int recorder_remove(struct recorder *r, const char *caller, struct recorder_byte
     uint64_t start = now();
     int failed = write(with, nothing), error = errno;
     uint64_t end = failed ? NEVER_ENDED : now();
-    note(r, caller, (struct stamps){start, end}, " remove ", key, NULL, 0);
+    if (failed != RECORDER_UNDONE) note(r, caller, (struct stamps){start, end}, " remove ", key, NULL, 0);
     errno = error;
     return failed;
 }

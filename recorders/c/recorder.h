@@ -16,6 +16,7 @@
  * Stack. A call needs less than 4 KiB, beside what your function needs. */
 #ifndef RECORDER_H
 #define RECORDER_H
+#include <limits.h>
 #include <stddef.h>
 #include <stdint.h>
 
@@ -34,9 +35,13 @@ enum recorder_answer {
     RECORDER_FAILED = -1 /* no answer came: such a get has no line */
 };
 
+/* What a recorder_write returns if the cache answered that the write was surely not done, as an add of a key that is there: it has no line. */
+#define RECORDER_UNDONE INT_MIN
+
 /* Sends a put or a removal, and waits for its answer. `stored` is what has to be put: the value, with a tag in front if its key is
- * recorded. It lies there until the function returns. For a removal it is empty. Returns 0 if the cache answered that it was done,
- * and anything else if it was refused or no answer came: then it may have happened, or happen yet, and its END is written as `-`. */
+ * recorded. It lies there until the function returns. For a removal it is empty. Returns 0 if the cache answered that it was done, and
+ * RECORDER_UNDONE if it surely was not. Anything else says that it was refused or no answer came: then it may have happened, or happen
+ * yet, and its END is written as `-`. */
 typedef int recorder_write(void *with, struct recorder_bytes stored);
 
 /* Sends a get, and waits for its answer. At a hit it sets `found` to what was read, which must lie there until you have used it. */

@@ -13,6 +13,7 @@ import threading
 import time
 
 TAG = re.compile(rb"rec\.[0-9a-f]{12}\.[0-9]{1,20}\|")
+TEXT_TAG = re.compile(TAG.pattern.decode())
 NAME_MOST, KEY_MOST, VALUE_MOST, NUMBER_MOST, NOTHING = 64, 255, 64, 2**63 - 1, object()
 CODED = [chr(it) if 33 <= it <= 126 and it not in b"%#" else "%%%02X" % it for it in range(256)]
 
@@ -27,8 +28,9 @@ def plain(key):
     return key.encode("utf-8", "replace") if isinstance(key, str) else key
 
 
-def value_word(data):
+def value_word(value):
     """Returns a value as a word: its tag, and either all of the rest or, if that is long, its hash."""
+    data = value.encode("utf-8", "surrogatepass") if isinstance(value, str) else value
     tag = TAG.match(data)
     head, rest = (tag[0], data[tag.end():]) if tag else (b"", data)
     return word(data if len(rest) <= VALUE_MOST else head + b"sha256." + hashlib.sha256(rest).hexdigest()[:32].encode())
@@ -48,6 +50,7 @@ class Call:
     def __init__(self, recorder, act, caller, key, stored=None, lifetime=0):
         self.recorder, self.act, self.caller, self.key, self.stored, self.lifetime = recorder, act, caller, plain(key), stored, lifetime
         self.found, self.failed = NOTHING, False  # set `failed` after a write that was refused: then END is `-` too
+        self.undone = False  # set it if the answer says that the write was surely not done: then it has no line
 
     def __enter__(self):
         self.start = time.monotonic_ns()
@@ -62,13 +65,16 @@ class Call:
     @property
     def value(self):
         """What a get found, without its tag; None if it found nothing."""
-        tag = TAG.match(self.found) if isinstance(self.found, bytes) else None
+        tags = {bytes: TAG, str: TEXT_TAG}.get(type(self.found))
+        tag = tags.match(self.found) if tags else None
         return None if self.found is NOTHING else self.found[tag.end():] if tag else self.found
 
     def line(self):
         """Returns the call's line, or nothing for a get without an answer."""
         name = word(str(self.caller).encode("utf-8", "replace")[:NAME_MOST])
         end, act, rest = ("-" if self.failed else str(self.end)), self.act, []
+        if self.undone:
+            return b""
         if act == "get":
             if self.failed or self.found is NOTHING:
                 return b""
@@ -90,8 +96,10 @@ class Recorder:
 
     def put(self, caller, key, value, lifetime=0):
         """Records a put. Let the block store `stored` of what it is given. `lifetime` is in nanoseconds, 0 for never."""
-        tag = b"rec.%s.%d|" % (self.run.encode(), next(self.puts)) if self.is_recorded(plain(key)) and isinstance(value, bytes) else b""
-        return Call(self, "put", caller, key, tag + value if tag else value, lifetime)
+        if self.is_recorded(plain(key)) and isinstance(value, (bytes, str)):
+            tag = "rec.%s.%d|" % (self.run, next(self.puts))
+            value = tag + value if isinstance(value, str) else tag.encode() + value
+        return Call(self, "put", caller, key, value, lifetime)
 
     def remove(self, caller, key):
         """Records a removal."""
