@@ -4,8 +4,8 @@ from .times import number, stamp
 
 FIELDS = ("caller", "start", "end", "took", "op", "key", "value", "result", "ttl")
 LATE = 2 * 10**9  # by so much memcached's clock, which it reads once a second, can make an expiry late
-ACTS = {"get": "get gets read fetch load lookup", "put": "put set write store setex psetex", "remove": "remove delete del unlink evict invalidate"}
-RESULTS = {"hit": "hit found", "miss": "miss missed not_found notfound", "stored": "stored ok done success deleted removed updated",
+ACTS = {"get": "get gets read fetch lookup", "put": "put set write store setex psetex", "remove": "remove delete del unlink invalidate"}
+RESULTS = {"hit": "hit found", "miss": "miss missed not_found notfound", "stored": "stored ok done success deleted removed",
            "failed": "failed not_stored refused rejected", "unknown": "unknown error timeout timedout info"}
 ACTS_TAKEN, RESULTS_TAKEN = ("get", "put", "remove", "skip", "leave"), tuple(RESULTS)
 HINTS = {**dict.fromkeys("incr incrby incrbyfloat decr decrby increment decrement append prepend setrange cas add replace setnx getset getdel getex touch expire".split(),
@@ -26,6 +26,7 @@ class Calls:
         self.unit, self.ttl_unit, self.over, self.hashes_keys = options.unit, options.ttl_unit, options.hash_over, options.hash_keys
         self.acts, self.results = table_of(ACTS, options.map), table_of(RESULTS, options.map_result)
         self.is_timed, self.has_took, self.has_result = options.ttl is not None, options.took is not None, options.result is not None
+        self.is_csv = options.form == "csv"  # which has no null: an empty field may be no value
         self.stamp_name = "start" if options.start else "end"
         self.known, self.callers, self.left, self.without_line = {}, {}, set(), 0
 
@@ -52,8 +53,12 @@ class Calls:
         went = self.results.get(result or b"") or self.results.get((result or b"").strip().lower())
         if went is None:
             raise Bad(f"the result {shown(result or b'')} is unknown: say what it is by --map-result NAME=hit, miss, stored, failed or unknown", field="result")
+        if act == b"get" and went == b"stored":
+            if self.is_csv and not value:
+                raise Bad(f"the result {shown(result)} does not say whether this get hit an empty value or missed: map a word to hit and one to miss", field="result")
+            return b"miss" if value is None else b"hit"
         if act == b"get":
-            return (b"miss" if value is None else b"hit") if went == b"stored" else went
+            return went
         if act == b"put" and went in (b"hit", b"miss"):
             raise Bad(f"a put can't have the result {shown(result)}: is the operation right?", field="result")
         return b"stored" if went in (b"hit", b"miss") else went
@@ -95,6 +100,8 @@ class Calls:
         if act == b"skip" or act == b"leave" or key in self.left:
             return b""
         went = self.result_of(act, result, value)
+        if value is None and act != b"remove" and went in (b"hit", b"stored") and not self.is_csv:
+            raise Bad("a put or a hit has a value, and this one has none: is --value right?", field="value")
         name, (begun, ended) = key_word(key, self.hashes_keys), self.times_of(start, end, took)
         is_open = ended is None or went == b"unknown"
         if went == b"failed" or is_open and act == b"get":

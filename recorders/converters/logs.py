@@ -4,11 +4,11 @@ import re
 INSTEAD = "record the calls at the client, with a recorder of this folder"
 # the name of a form, how a line of it begins, and why it does not serve
 LOGS = (
-    ("redis-monitor", rb'(OK$|[0-9]+\.[0-9]{6} \[[0-9]+ [^\]]+\] ")',
+    ("redis-monitor", rb'[0-9]+\.[0-9]{6} \[[0-9]+ [^\]]+\] "',
      "Redis's MONITOR prints a call once, when the server runs it: it has one stamp, and no answer"),
-    ("redis-slowlog", rb"( *1\) 1\) \(integer\)|1\) \"?[0-9]+)",
+    ("redis-slowlog", rb" *1\) 1\) \(integer\) [0-9]",
      "Redis's SLOWLOG has a start in whole seconds, no answer, cut arguments, and only the calls that were slow in the server"),
-    ("memcached-watch", rb"(OK$|ts=[0-9]+\.[0-9]+ gid=[0-9]+ type=)",
+    ("memcached-watch", rb"ts=[0-9]+\.[0-9]+ gid=[0-9]+ type=",
      "memcached's `watch` prints an event with one stamp and no value; its proxy's events have the time taken, but no value either"),
     ("twemproxy", rb"\[[0-9-]+ [0-9:.]+\] nc_\w+\.c:[0-9]+ ",
      "twemproxy logs how long a request took, its first key and the lengths of both sides, but no value"),
@@ -24,6 +24,6 @@ def why_not(name):
     return next(f"{why}; {'or ' if log in ('mcrouter', 'envoy') else ''}{INSTEAD}" for log, _, why in LOGS if log == name)
 
 
-def recognized(line):
-    """Returns the name of the log that a line looks like, or None."""
-    return next((name for name, begins, _ in LOGS if begins and re.match(begins, line)), None)
+def recognized(lines):
+    """Returns the name of the log that one of the first lines looks like, or None."""
+    return next((name for name, begins, _ in LOGS if begins and any(re.match(begins, it) for it in lines)), None)

@@ -24,7 +24,7 @@ STATUSES = """A line that is wrong ends the conversion with `convert: FILE:LINE:
 Statuses: 0 done, 2 bad input or a bad command line, 3 a file could not be read or written."""
 TABLE = """What a row is. --op says what was done: get, put or remove. --result says how it went:
   hit, miss   of a get. Without --result a get with a value is a hit, and one without (an empty field, null or no member) a miss
-  stored      done, as it was asked: a get with a value is then a hit
+  stored      done, as it was asked: a get with a value is then a hit, and one with null or no member a miss
   failed      surely not done: the row has no line
   unknown     perhaps done: a put or a remove has - for END, a get has no line
 A row without --end or --took, or with -, is an open call: a put or a remove has - for END, a get has no line.
@@ -74,7 +74,7 @@ def add_table(form, noun):
                        ("took", "how long the call took, in place of --start or --end"), ("op", "what was done"), ("key", "the key"),
                        ("value", "the value that was read or put"), ("result", "how it went"), ("caller", "who called; all are one without it"),
                        ("ttl", "the lifetime of a put, 0 for ever; it expires so long after its END, and two seconds")):
-        form.add_argument(f"--{name}", metavar=noun, required=name in ("op", "key"), help=what)
+        form.add_argument(f"--{name}", metavar=noun, required=name in ("op", "key", "value"), help=what)
     form.add_argument("--unit", choices=("ns", "us", "ms", "s", "rfc3339"), default="ns",
                       help="of stamps, ns without this; also of --took, which with rfc3339 is in ms")
     form.add_argument("--ttl-unit", choices=("ns", "us", "ms", "s"), default="s", help="of --ttl, s without this")
@@ -197,11 +197,11 @@ def convert(options, file, out):
 
 
 def say_log(source):
-    """Says so if the first line is that of a log which can't be judged."""
+    """Says so if one of the first lines is that of a log which can't be judged."""
     file = source.lines.file if hasattr(source, "lines") else source.rows.lines.file
     try:
         file.seek(0)
-        log = recognized(file.readline(4096).rstrip(b"\r\n"))
+        log = recognized([file.readline(4096), file.readline(4096)])
     except (OSError, ValueError):
         return
     if log:

@@ -55,9 +55,9 @@ GOOD = (
      b"caller 1000000000 1001600000 put a x\n"),
     ("calls that are open", CSV, HEAD + b"1,,put,a,x\n2,-,del,a,\n3,,get,a,x\n", b"caller 1 - put a x\ncaller 2 - remove a\n"
      b"# 1 rows of gets without an answer, or of calls that failed, have no line\n"),
-    ("each result", CSV + " --result r", RESULT + b"1,2,get,a,x,HIT\n3,4,get,a,,hit\n5,6,get,a,x,miss\n7,8,get,a,,ok\n9,10,get,a,x,ok\n11,12,put,a,x,stored\n"
+    ("each result", CSV + " --result r", RESULT + b"1,2,get,a,x,HIT\n3,4,get,a,,hit\n5,6,get,a,x,miss\n9,10,get,a,x,ok\n11,12,put,a,x,stored\n"
      b"13,14,put,a,x,unknown\n15,16,put,a,x,failed\n17,18,del,a,,miss\n19,20,del,a,,timeout\n21,22,get,a,x,unknown\n",
-     b"caller 1 2 hit a x\ncaller 3 4 hit a -\ncaller 5 6 miss a\ncaller 7 8 hit a -\ncaller 9 10 hit a x\ncaller 11 12 put a x\ncaller 13 - put a x\n"
+     b"caller 1 2 hit a x\ncaller 3 4 hit a -\ncaller 5 6 miss a\ncaller 9 10 hit a x\ncaller 11 12 put a x\ncaller 13 - put a x\n"
      b"caller 17 18 remove a\ncaller 19 - remove a\n# 2 rows of gets without an answer, or of calls that failed, have no line\n"),
     ("names of operations and results", CSV + " --result r --map fill=put --map peek=get --map PING=skip --map-result 200=stored --map-result =stored",
      RESULT + b"1,2,FILL,a,x,200\n3,4,peek,a,x,\n5,6,ping,,,what\n", b"caller 1 2 put a x\ncaller 3 4 hit a x\n"),
@@ -100,7 +100,7 @@ BAD = (
     ("a field too many", CSV, HEAD + b"1,2,put,a,x,y\n", ("2:13", "the row has 6 fields, and the header 5")),
     ("rows of two widths", NUMBERED, b"1,2,put,a,x\n1,2,put,a\n", ("2:10", "the row has 4 fields, and the first row 5")),
     ("a column past the row", NUMBERED, b"1,2,put,a\n", ("1:1", "the row has 4 fields, and a column 5 is named")),
-    ("a column by its name without a header", "csv --no-header --start s --end 2 --op 3 --key 4", b"1,2,put,a\n", ("1:1", "with --no-header a column is a number from 1, not s")),
+    ("a column by its name without a header", "csv --no-header --start s --end 2 --op 3 --key 4 --value 4", b"1,2,put,a\n", ("1:1", "with --no-header a column is a number from 1, not s")),
     ("a quote within a field", CSV, HEAD + b'1,2,put,a"b,x\n', ("2:10", "a quote within a field that has none around it")),
     ("text after a quote", CSV, HEAD + b'1,2,put,"a"b,x\n', ("2:12", "after a closing quote the field goes on")),
     ("text after a quote, lines later", CSV, HEAD + b'1,2,put,"a\nb"c,x\n', ("3:3", "after a closing quote the field goes on")),
@@ -124,6 +124,7 @@ BAD = (
     ("an operation of many keys", CSV, HEAD + b"1,2,mget,a,x\n", ("2:5", "write a row for each key")),
     ("an empty operation", CSV, HEAD + b"1,2,,a,x\n", ("2:5", 'the operation "" is unknown')),
     ("an unknown result", CSV + " --result r", RESULT + b"1,2,put,a,x,200\n", ("2:13", 'the result "200" is unknown: say what it is by --map-result')),
+    ("a get that went well, with an empty field", CSV + " --result r", RESULT + b"1,2,get,a,,ok\n", ("2:12", 'the result "ok" does not say whether this get hit')),
     ("a put that hit", CSV + " --result r", RESULT + b"1,2,put,a,x,hit\n", ("2:13", 'a put can\'t have the result "hit"')),
     ("a key of 256 bytes", CSV, HEAD + b"1,2,put," + b"k" * 256 + b",x\n", ("2:9", "a key has 1 to 255 bytes, and this one has 256: leave out its calls (--skip-bad), or give --hash-keys")),
     ("an empty key", CSV, HEAD + b"1,2,put,,x\n", ("2:9", "a key has 1 to 255 bytes, and this one has 0")),
@@ -146,6 +147,8 @@ BAD = (
     ("a member that is missing", JSONL, b'{"s":1,"e":2,"o":"set","v":"x"}\n', ("1:1", "there is no key: each call needs one")),
     ("a stamp that is missing", JSONL, b'{"e":2,"o":"set","k":"a","v":"x"}\n', ("1:1", "there is no start")),
     ("a stamp that is no number", JSONL, b'{"s":1, "e": true,"o":"set","k":"a","v":"x"}\n', ("1:14", 'end is no number of ns: "true"')),
+    ("a put without its value", JSONL, b'{"s":1,"e":2,"o":"set","k":"a","v": null}\n', ("1:37", "a put or a hit has a value, and this one has none")),
+    ("a hit without its value", JSONL + " --result r", b'{"s":1,"e":2,"o":"get","k":"a","r":"hit"}\n', ("1:1", "a put or a hit has a value")),
     ("a key that is an object", JSONL, b'{"s":1,"e":2,"o":"set","k":{},"v":"x"}\n', ("1:28", "the member k is an object: give a text or a number")),
     ("half of a surrogate pair", JSONL, b'{"s":1,"e":2,"o":"set","k":"a\\ud800","v":"x"}\n', ("1:28", "half of a surrogate pair")),
     ("a control character", JSONL, b'{"s":1,"e":2,"o":"set","k":"a\x01","v":"x"}\n', ("1:30", "no JSON: Invalid control character")),
@@ -180,9 +183,9 @@ BAD = (
 REFUSED = (
     ("", "the following arguments are required: FORM"),
     ("xml x", "invalid choice: 'xml'"),
-    ("csv --op o --key k x", "give --start and --end, or one of them with --took"),
-    ("csv --start s --end e --took t --op o --key k x", "with --took give one of --start and --end"),
-    ("csv --start s --end e --key k x", "the following arguments are required: --op"),
+    ("csv --op o --key k --value v x", "give --start and --end, or one of them with --took"),
+    ("csv --start s --end e --took t --op o --key k --value v x", "with --took give one of --start and --end"),
+    ("csv --start s --end e --key k x", "the following arguments are required: --op, --value"),
     (CSV, "the following arguments are required: FILE"),
     (CSV + " --unit h x", "invalid choice: 'h'"),
     (CSV + " --map a=b x", "give NAME=MEANING, where MEANING is get, put, remove, skip or leave, not a=b"),
@@ -198,10 +201,10 @@ REFUSED = (
 
 # logs as their servers print them, and what is said of them
 LOGS = (
-    ("redis-monitor", b'1796126125.123456 [0 127.0.0.1:40392] "SET" "a" "x"\n'),
-    ("redis-monitor", b"OK\n1796126125.123456 [0 127.0.0.1:40392] \"GET\" \"a\"\n"),
-    ("redis-slowlog", b" 1) 1) (integer) 14\n    2) (integer) 1796126125\n"),
-    ("memcached-watch", b"ts=1796126125.123456 gid=1 type=item_get key=a status=found clsid=1 cfd=30 size=1\n"),
+    ("redis-monitor", b'1796128531.396888 [0 127.0.0.1:41152] "set" "a" "x"\n'),
+    ("redis-monitor", b"OK\n1796128531.408775 [0 127.0.0.1:41160] \"get\" \"a\"\n"),
+    ("redis-slowlog", b"1) 1) (integer) 3\n   2) (integer) 1796128531\n"),
+    ("memcached-watch", b"OK\r\nts=1796128602.730145 gid=2 type=item_get key=a status=not_found clsid=0 cfd=24 size=0\r\n"),
     ("twemproxy", b"[2026-12-01 11:55:25.123] nc_request.c:101 req 5 done on c 9 req_time 0.412 msec type REQ_MC_GET narg 2 req_len 7 rsp_len 17 key0 'a'\n"),
 )
 
