@@ -1,5 +1,5 @@
 """A row's fields turned into a line of the judge's text."""
-from .text import CALLERS_MOST, NAME_MOST, Bad, key_word, shown, value_word, word
+from .text import CALLERS_MOST, NAME_MOST, NUMBER_MOST, Bad, key_word, shown, value_word, word
 from .times import number, stamp
 
 FIELDS = ("caller", "start", "end", "took", "op", "key", "value", "result", "ttl")
@@ -90,7 +90,9 @@ class Calls:
         at, step = stamp(start or end, self.unit, "start" if start else "end")
         if not took or took == b"-":
             return at, None
-        length, more = number(took, "ms" if self.unit == "rfc3339" else self.unit, "took") if isinstance(took, bytes) else took
+        length, more = number(took, "ms" if self.unit == "rfc3339" else self.unit, "took")
+        if at + length + step + more > NUMBER_MOST:
+            raise Bad(f"the call would end above 2^63 - 1 nanoseconds: {shown(took)}; is its unit right?", field="took")
         return (at, at + length + step + more) if start else (max(0, at - length - more), at + step - 1)
 
     def line(self, fields):
@@ -122,4 +124,5 @@ class Calls:
         if act == b"get":
             return b" %d" % begun
         lifetime = number(ttl, self.ttl_unit, "ttl")[0] if ttl else 0
-        return b" %d" % (ended + lifetime + LATE) if lifetime and ended is not None else b""
+        is_never = not lifetime or ended is None or ended + lifetime + LATE > NUMBER_MOST
+        return b"" if is_never else b" %d" % (ended + lifetime + LATE)

@@ -70,8 +70,9 @@ def stamp(data, unit, name):
         return int(data), 1
     whole, _, part = data.partition(b".")
     if unit != "rfc3339" and len(data) < 20 and whole.isdigit() and part.isdigit():
-        return scaled(whole, part, DIGITS[unit])
-    at, step = date(data, name) if unit == "rfc3339" else number(data, unit, name)
+        at, step = scaled(whole, part, DIGITS[unit])
+    else:
+        at, step = date(data, name) if unit == "rfc3339" else number(data, unit, name)
     if at + step > NUMBER_MOST:
         raise Bad(f"{name} is above 2^63 - 1 nanoseconds: {shown(data)}; is its unit {unit}?", field=name)
     return at, step
