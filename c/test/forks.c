@@ -30,6 +30,39 @@ static int count_others(kangaroo_cache *cache) {
     return others;
 }
 
+/* How many files of lanes this process has mapped. */
+static int count_mapped(void) {
+    char line[2 * PATH_BYTES];
+    int count = 0;
+    FILE *maps = fopen("/proc/self/maps", "r");
+    expect(maps != NULL, "the mappings");
+    while (fgets(line, sizeof line, maps) != NULL) count += strstr(line, "/kangaroo-") != NULL && strstr(line, ".dev\n") != NULL;
+    fclose(maps);
+    return count;
+}
+
+/* Whether a program that this process starts has no file of the folder open. */
+static bool is_closed_by_exec(const char *folder) {
+    int status = 0;
+    pid_t child = fork();
+    if (child == 0) {
+        execl("/bin/sh", "sh", "-c", "for file in /proc/self/fd/*; do readlink \"$file\"; done | grep -q \"$0\" && exit 1; exit 0",
+              folder, (char *)NULL);
+        _exit(2);
+    }
+    return waitpid(child, &status, 0) == child && WIFEXITED(status) && WEXITSTATUS(status) == 0;
+}
+
+static void shows_what_is_not_handed_on(const char *folder) {
+    int status = 0, mapped = count_mapped();
+    pid_t child = fork();
+    if (child == 0) _exit(count_mapped());
+    expect(waitpid(child, &status, 0) == child && WIFEXITED(status), "a child");
+    expect(mapped > 0 && WEXITSTATUS(status) == 0, "a child has none of the mapped files");
+    expect(is_closed_by_exec(folder), "exec closes the descriptor of the folder's lock");
+    show("a child has none of the %d mapped files, and a program that is started none of the folder open", mapped);
+}
+
 /* A cache of the child's own works, and its child is told too. */
 static int try_own(const char *folder) {
     kangaroo_cache *own = open_small(folder);
@@ -56,6 +89,7 @@ int main(void) {
     errno = WEXITSTATUS(status);
     expect(WEXITSTATUS(status) == 0, "each call in the child is FORKED");
     show("ten calls in a child are FORKED; a cache of its own works there");
+    shows_what_is_not_handed_on(folder);
     expect(hits_text(cache, "a", "apple"), "the parent's cache is unharmed");
     put_text(cache, "b", "pear");
     expect(hits_text(cache, "b", "pear"), "and goes on");

@@ -17,6 +17,23 @@ static void answer_open(const char *folder) {
     _exit(-kangaroo_open(&options, folder, &cache, NULL));
 }
 
+/* An open that is refused leaves the files of the cache that has the folder, also where it would have fewer lanes itself. */
+static void shows_files_that_stay(const char *folder) {
+    kangaroo_options fewer = small_options();
+    kangaroo_cache *first = open_small(folder), *second = NULL;
+    char path[2 * PATH_BYTES], name[32];
+    struct stat is;
+    fewer.lanes = 1;
+    expect_status(kangaroo_open(&fewer, folder, &second, NULL), KANGAROO_IN_USE, "a second with fewer lanes");
+    for (int i = 0; i < 4; i++) {
+        snprintf(name, sizeof name, "kangaroo-%d.dev", i);
+        path_in(folder, name, path);
+        expect(stat(path, &is) == 0 && is.st_size > 0, "the files of the first stay");
+    }
+    close_cache(first);
+    show("a cache of fewer lanes that is refused leaves the files of the one that has the folder");
+}
+
 static void shows_two_on_one_folder(const char *folder) {
     kangaroo_options options = small_options();
     kangaroo_cache *first = open_small(folder), *second = NULL;
@@ -76,6 +93,7 @@ int main(void) {
     char folder[PATH_BYTES];
     make_folder(folder);
     shows_two_on_one_folder(folder);
+    shows_files_that_stay(folder);
     shows_a_kill(folder);
     remove_folder(folder);
     return 0;

@@ -7,6 +7,8 @@
 #include <sys/resource.h>
 #include <sys/wait.h>
 
+enum { BY_MAIN = 41, BY_THREAD = 42 };
+
 static atomic_int delivered, elsewhere;
 static pthread_t main_thread;
 
@@ -68,6 +70,38 @@ static void cut_the_files(const char *folder) {
     put_many(cache);
 }
 
+static void end_by_handler(int number) {
+    (void)number;
+    _exit(pthread_equal(pthread_self(), main_thread) ? BY_MAIN : BY_THREAD);
+}
+
+/* Puts until a thread of the library finds that its file was cut: as soon as a page of the log is full, and before a put does a step
+ * itself, since the log is nearly full. */
+static int status_of_thread(const char *folder) {
+    kangaroo_options options = small_options();
+    char path[2 * PATH_BYTES], value[100] = {0};
+    options.lanes = 1;
+    main_thread = pthread_self();
+    kangaroo_cache *cache = open_with(&options, folder);
+    path_in(folder, "kangaroo-0.dev", path);
+    expect(truncate(path, 0) == 0, "a cut");
+    signal(SIGBUS, end_by_handler);
+    for (uint32_t key = 0; key < 400; key++) {
+        expect(kangaroo_put(cache, &key, sizeof key, value, sizeof value, KANGAROO_NEVER) == KANGAROO_OK, "a put");
+        if (key > 100) usleep(2000);
+    }
+    return 0;
+}
+
+static void shows_handlers(const char *folder) {
+    int status = 0;
+    pid_t child = fork();
+    if (child == 0) _exit(status_of_thread(folder));
+    expect(child > 0 && waitpid(child, &status, 0) == child && WIFEXITED(status), "a handler sees the fault of a thread of the library");
+    expect(WEXITSTATUS(status) == BY_THREAD, "the thread itself has it");
+    show("a bus error in a thread of the library comes to the program's handler");
+}
+
 static void fill_the_disk(const char *folder) {
     kangaroo_options options = small_options();
     options.flags = KANGAROO_SPARSE;
@@ -90,7 +124,10 @@ int main(void) {
     char folder[PATH_BYTES];
     make_folder(folder);
     shows_own_threads(folder);
-    if (!is_sanitized()) shows_bus_errors(folder);
+    if (!is_sanitized()) {
+        shows_bus_errors(folder);
+        shows_handlers(folder);
+    }
     remove_folder(folder);
     return 0;
 }

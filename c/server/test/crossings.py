@@ -6,7 +6,7 @@ import subprocess
 import time
 
 import refusals
-from harness import PROGRAM, Skipped, equal, expect, server, shows, wait_for
+from harness import PROGRAM, Client, Skipped, equal, expect, free_port, server, shows, wait_for
 
 
 def stop_for_a_while(it):
@@ -61,6 +61,55 @@ def halves_of_two():
         other.ask(b"mn\r\nset big 0 0 100000\r\n" + b"x" * 50_000, b"MN\r\nSERVER_ERROR object too large for cache\r\n")
         one.ask(b"\r\nget b\r\n", b"VALUE a 0 1\r\n1\r\nEND\r\nVALUE b 0 1\r\n2\r\nEND\r\n", "beside a block that is passed over")
         other.ask(b"x" * 50_000 + b"\r\nmn\r\n", b"MN\r\n")
+
+
+# What a client may be in the middle of when it leaves, and what of it is answered until then.
+LEFT_HALF_DONE = [
+    (b"set half 0 0 9\r\n123", b""),
+    (b"set big 0 0 100000\r\n" + b"x" * 20_000, b"SERVER_ERROR object too large for cache\r\n"),
+    (b"set " + b"k" * 251 + b" 0 0 100000\r\n" + b"x" * 20_000, b"CLIENT_ERROR bad command line format\r\n"),
+    (b"get " + b"a " * 4000, b"VALUE a 0 1\r\n1\r\n" * 2000),
+    (b"gets " + b"a " * 4000, b"VALUE a 0 1 "),
+    (b"gat 0 " + b"a " * 4000, b"VALUE a 0 1\r\n1\r\n" * 2000),
+]
+
+
+@shows("what a client leaves half done when it goes is gone on with by no client that comes after it")
+def halves_of_one_who_left():
+    with server("-t", "1") as it:
+        asks = it.client()
+        asks.ask(b"set a 0 0 1\r\n1\r\n", b"STORED\r\n")
+        for sent, answer in LEFT_HALF_DONE:
+            gone = it.client()
+            gone.ask(sent, answer, f"up to where a client leaves: {sent[:30]}")
+            gone.close()
+            wait_for(lambda: asks.stats()["curr_connections"] == "1", "it has left")
+            other = it.client()
+            other.ask(b"get a\r\nmn\r\n", b"VALUE a 0 1\r\n1\r\nEND\r\nMN\r\n", f"the next client, after {sent[:30]}")
+            other.close()
+            wait_for(lambda: asks.stats()["curr_connections"] == "1", "it has left, too")
+
+
+def answers_before_quit(client, items):
+    """A client quits behind many gets, sends on, and reads only later: it gets all of its answers, and then the end."""
+    client.send(b"".join(b"get %s\r\n" % key for key in items) + b"quit\r\n" + b"x" * 3000)
+    time.sleep(0.2)
+    equal(client.take(1 << 20), answer_to_gets(items), "the answers to a client that quits")
+
+
+@shows("a client that quits gets all of its answers first, however late it reads them, and whatever it has sent after that")
+def quits():
+    port = free_port()
+    for narrow in (PROGRAM["narrow"], None) if PROGRAM["narrow"] else (None,):
+        environment = {"LD_PRELOAD": narrow, "NARROW": "3000"} if narrow else {}
+        with server("-t", "1", "-p", str(port), has_socket=False, environment=environment) as it:
+            items = values(0, 200)
+            store(Client(("127.0.0.1", port)), items)
+            for room in (1 << 12, 1 << 20):
+                answers_before_quit(Client(("127.0.0.1", port), room), items)
+        with server("-t", "1", environment=environment) as it:
+            store(it.client(), items)
+            answers_before_quit(it.client(), items)
 
 
 @shows("answers come in their order, however little of them the system takes at once, and whatever more a client asks meanwhile")

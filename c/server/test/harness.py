@@ -92,9 +92,11 @@ def free_port():
 class Client:
     """A client that sends bytes and waits for those that it expects."""
 
-    def __init__(self, address):
+    def __init__(self, address, room=None):
         is_unix = isinstance(address, str)
         self.socket = socket.socket(socket.AF_UNIX if is_unix else socket.AF_INET)
+        if room is not None:  # for what it has not read yet
+            self.socket.setsockopt(socket.SOL_SOCKET, socket.SO_RCVBUF, room)
         self.socket.settimeout(PATIENCE)
         self.connect(address)
         self.left = b""

@@ -394,6 +394,21 @@ static void shows_moments(void) {
     show("an item of one second, one with a date, and a flush that is to come: there up to the last second, and not in the next");
 }
 
+/* 30 days are the longest delay, and the last flush_all counts: it takes the place of one that is to come. */
+static void shows_flushes_to_come(void) {
+    expect_answer("set kept 0 0 1\r\nx\r\nflush_all 2592000\r\n", "STORED\r\nOK\r\n", "a flush in 30 days");
+    expect_answer("get kept\r\n", "VALUE kept 0 1\r\nx\r\nEND\r\n", "30 days before a flush");
+    expect_answer("flush_all 1\r\nflush_all\r\nset kept 0 0 1\r\ny\r\n", "OK\r\nOK\r\nSTORED\r\n", "a flush after one that is to come");
+    clock_now++;
+    expect_answer("get kept\r\n", "VALUE kept 0 1\r\ny\r\nEND\r\n", "the flush that was to come is given up");
+    expect_answer("flush_all 1\r\nflush_all 1000\r\n", "OK\r\nOK\r\n", "two flushes that are to come");
+    clock_now++;
+    expect_answer("get kept\r\n", "VALUE kept 0 1\r\ny\r\nEND\r\n", "the first of two is given up");
+    clock_now += 999;
+    expect_answer("get kept\r\n", "END\r\n", "at the moment of the second");
+    show("a flush in 30 days, and of two flushes the last counts");
+}
+
 /* --------------------------------------------------------------------------------------------------------------- due lanes */
 
 static void tend_those_handed_over(void) {
@@ -447,6 +462,7 @@ int main(void) {
     open_all(folder);
     shows_due_lanes();
     shows_moments();
+    shows_flushes_to_come();
     for (size_t i = 0; i < sizeof trials / sizeof *trials; i++) run_trial(&trials[i]);
     close_all(folder);
     return 0;

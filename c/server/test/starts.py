@@ -82,6 +82,8 @@ def refused_starts():
         refused_start("-p", str(port), has_socket=False, wanted=f"-l 127.0.0.1, port {port}: Address already in use")
     refused_start("-s", "/tmp/" + "x" * 120, has_socket=False, wanted="the path has more than 107 bytes")
     refused_start("-s", "/nowhere/socket", has_socket=False, wanted="-s /nowhere/socket: No such file or directory")
+    long = "/" + "x" * 3000
+    refused_start("--folder", long, wanted=f"kangarood: --folder {long}"[:1022] + "\n")
     refused_start("-P", "/nowhere/pid", wanted="-P /nowhere/pid: No such file or directory")
     refused_start("-l", "[::1", has_socket=False, wanted="-l [::1: give HOST, HOST:PORT or [HOST]:PORT")
     refused_start("-l", "256.1.1.1", has_socket=False, wanted="-l 256.1.1.1: ")
