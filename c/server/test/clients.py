@@ -57,6 +57,26 @@ def never_reads():
             equal(client.take(len(answer)), answer, "each answer")
 
 
+@shows("the memory of answers that a client took late, and of a request that came in pieces, is given back while the client stays")
+def memory_of_clients():
+    value, count = b"v" * 1000, 30
+    one, gets = b"VALUE v 0 1000\r\n" + value + b"\r\nEND\r\n", 400
+    with server("-t", "1", environment={"MALLOC_MMAP_THRESHOLD_": "1024"}) as it:  # each piece of memory is one of the system's
+        asks, clients = it.client(), it.greeted(1 + count)
+        asks.ask(b"set v 0 0 1000\r\n" + value + b"\r\n", b"STORED\r\n")
+        for some in clients[:1], clients[1:]:  # the first has the server take what all share
+            before = it.kib()
+            for client in some:
+                client.send(b"get v\r\n" * gets)
+            wait_for(lambda: sum(state == "conn_mwrite" for state in asks.stats(b"conns").values()) == len(some), "answers wait")
+            for client in some:
+                equal(client.take(gets * len(one)), one * gets, "the answers")
+                client.send(b"set w 0 0 2000\r\n" + value)
+            for client in some:
+                client.ask(value + b"\r\n", b"STORED\r\n", "a request that came in two pieces")
+        grew_little(it, before, 2 * count)
+
+
 @shows("a get of more keys than a line has, with 1 MB of answers, is answered whole")
 def many_keys():
     with server() as it:

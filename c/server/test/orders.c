@@ -76,6 +76,15 @@ static __attribute__((unused)) void note_lane(const kangaroo_cache *cache, uint3
     is_handed_over[number] = true;
 }
 
+/* A step on a lane is made in a hold of its lock. */
+static void step_noted(ks_session *session, kl_lane *lane, const ks_turn *turn, const uint8_t *bytes, size_t length, uint8_t *to,
+                       size_t room, ks_done *done, uint32_t *is_due) {
+    const guarded_lane *of = (const guarded_lane *)(const void *)((const char *)lane - offsetof(guarded_lane, lane));
+    expect(place_of(&of->lock) != NULL, "a step on a lane is made in a hold of its lock");
+    ks_lane_step(session, lane, turn, bytes, length, to, room, done, is_due);
+    expect(place_of(&of->lock) != NULL, "the lock of a lane is held to the end of the step");
+}
+
 static int tell_time(clockid_t clock, struct timespec *to) {
     *to = (struct timespec){.tv_sec = clock == CLOCK_REALTIME ? clock_now : clock_now - OPENED};
     return 0;
@@ -93,6 +102,7 @@ static int tell_time(clockid_t clock, struct timespec *to) {
 #define pthread_mutex_unlock(of) leave_lock(of)
 #define clock_gettime(clock, to) tell_time(clock, to)
 #define hand_over(cache, number) note_lane(cache, number)
+#define ks_lane_step(...) step_noted(__VA_ARGS__)
 #include "../steps.c"
 
 /* ------------------------------------------------------------------------------------------------------------- commands */

@@ -225,3 +225,7 @@ def verbose():
         said = it.said()
         expect("new client connection" in said and " set a 0 0 1" in said and " STORED" in said, said)
         expect("VALUE" not in said, "after verbosity 0 nothing more is told")
+        client.ask(b"verbosity 2\r\nget " + b"k" * 96 + b"\r\nget " + b"k" * 97 + b"\r\n", b"OK\r\nEND\r\nEND\r\n")
+        told = [line.split(" ", 1)[1] for line in it.said().splitlines() if "kkk" in line]
+        equal(told, ["k" * 96, "k" * 97], "keys that are told")
+        client.ask(b"get " + b"k " * 60 + b"\r\nmn\r\n", b"END\r\nMN\r\n")

@@ -1,8 +1,10 @@
 """The stats commands."""
+import os
 import pathlib
+import shutil
 import time
 
-from harness import equal, expect, server, shows, wait_for
+from harness import Server, equal, expect, server, shows, wait_for
 
 OF_MEMCACHED = """pid uptime time version pointer_size rusage_user rusage_system max_connections curr_connections total_connections
 rejected_connections cmd_get cmd_set cmd_flush cmd_touch cmd_meta get_hits get_misses delete_misses delete_hits incr_misses incr_hits
@@ -62,6 +64,24 @@ def reset_and_settings():
         settings = client.stats(b"settings")
         wanted = {"maxconns": "77", "num_threads": "2", "object_bytes": "50", "domain_socket": it.path, "tcpport": "0"}
         equal({name: settings[name] for name in wanted}, wanted, "settings")
+
+
+@shows("stats settings of a folder with a long path has the front of it, and whole lines")
+def long_path():
+    it = Server(wait=False)
+    it.remove()
+    folder = f"{it.folder}/{'x' * 250}/{'y' * 250}"
+    os.makedirs(folder)
+    try:
+        with server("--folder", folder) as it:
+            client = it.client()
+            client.send(b"stats settings\r\n")
+            lines = client.take_to(b"END\r\n").decode().split("\r\n")
+            told = [line for line in lines if line.startswith("STAT folder ")]
+            equal(told, [f"STAT folder {folder}"[: 511 - 2]], "the line of the folder, with its end of 511 bytes")
+            expect(all(line.startswith("STAT ") for line in lines[:-2]) and lines[-2:] == ["END", ""], f"whole lines: {lines}")
+    finally:
+        shutil.rmtree(folder.split("/xxx")[0], ignore_errors=True)
 
 
 @shows("version and stats give a version of memcached that clients can parse, and stats says whose it is")
