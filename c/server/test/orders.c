@@ -77,12 +77,13 @@ static __attribute__((unused)) void note_lane(const kangaroo_cache *cache, uint3
 }
 
 /* A step on a lane is made in a hold of its lock. */
-static void step_noted(ks_session *session, kl_lane *lane, const ks_turn *turn, const uint8_t *bytes, size_t length, uint8_t *to,
-                       size_t room, ks_done *done, uint32_t *is_due) {
+static uint32_t step_noted(ks_session *session, kl_lane *lane, const ks_turn *turn, const uint8_t *bytes, size_t length, uint8_t *to,
+                           size_t room, ks_done *done) {
     const guarded_lane *of = (const guarded_lane *)(const void *)((const char *)lane - offsetof(guarded_lane, lane));
     expect(place_of(&of->lock) != NULL, "a step on a lane is made in a hold of its lock");
-    ks_lane_step(session, lane, turn, bytes, length, to, room, done, is_due);
+    uint32_t is_due = ks_lane_step(session, lane, turn, bytes, length, to, room, done);
     expect(place_of(&of->lock) != NULL, "the lock of a lane is held to the end of the step");
+    return is_due;
 }
 
 static int tell_time(clockid_t clock, struct timespec *to) {
