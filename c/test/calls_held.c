@@ -4,14 +4,25 @@
 #define _GNU_SOURCE
 #include "inside.h"
 #include "test.h"
+#include <dlfcn.h>
 
-enum { LANES = 4, CALLS = 10, KEYS = 2000, STEPS_MAX = 64 };
+enum { LANES = 4, CALLS = 10, KEYS = 2000, STEPS_MAX = 64, GET = 0, LEASE = 2 };
 
 static const char *const names[CALLS] = {"get", "get_or_lease", "lease", "put", "put_or_remove", "fill", "remove", "upkeep_step",
                                          "count", "hand_over"};
 static long made[CALLS];
 static const kl_lane *stepped[STEPS_MAX]; /* the lanes of the last steps that did something */
 static int step_count;
+
+/* How many locks this thread has given back, now and at its last get. */
+static _Thread_local long given_back, given_back_at_get;
+
+int pthread_mutex_unlock(pthread_mutex_t *lock) {
+    static int (*real)(pthread_mutex_t *);
+    if (real == NULL) *(void **)&real = dlsym(RTLD_NEXT, "pthread_mutex_unlock");
+    given_back++;
+    return real(lock);
+}
 
 /* Counts a call of a lane whose lock is held. */
 static void note_lock(pthread_mutex_t *lock, int which) {
@@ -20,6 +31,8 @@ static void note_lock(pthread_mutex_t *lock, int which) {
 }
 
 static void note(kl_lane *lane, int which) {
+    if (which == GET) given_back_at_get = given_back;
+    expect(which != LEASE || given_back == given_back_at_get, "a lease at a hit is of the hold of its get");
     note_lock(&((guarded_lane *)(void *)((char *)lane - offsetof(guarded_lane, lane)))->lock, which);
 }
 
@@ -34,11 +47,11 @@ static void note(kl_lane *lane, int which) {
         return answer; \
     }
 
-HELD(0, int32_t, kl_get, (kl_lane *lane, const uint8_t *key, size_t n, uint64_t moment, uint8_t *into, size_t room, kl_hit *hit),
+HELD(GET, int32_t, kl_get, (kl_lane *lane, const uint8_t *key, size_t n, uint64_t moment, uint8_t *into, size_t room, kl_hit *hit),
      (lane, key, n, moment, into, room, hit))
 HELD(1, int32_t, kl_get_or_lease, (kl_lane *lane, const uint8_t *key, size_t n, uint64_t moment, uint8_t *into, size_t room,
      kl_hit *hit, uint64_t *writes), (lane, key, n, moment, into, room, hit, writes))
-HELD(2, int32_t, kl_lease, (kl_lane *lane, const uint8_t *key, size_t n, uint64_t *writes), (lane, key, n, writes))
+HELD(LEASE, int32_t, kl_lease, (kl_lane *lane, const uint8_t *key, size_t n, uint64_t *writes), (lane, key, n, writes))
 HELD(3, int32_t, kl_put, (kl_lane *lane, const uint8_t *key, size_t n, const uint8_t *value, size_t length, uint64_t expires,
      uint32_t *is_due), (lane, key, n, value, length, expires, is_due))
 HELD(4, int32_t, kl_put_or_remove, (kl_lane *lane, const uint8_t *key, size_t n, const uint8_t *value, size_t length,
