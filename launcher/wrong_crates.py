@@ -1,0 +1,200 @@
+"""Wrong bodies of crates: the part of wrong_bodies that lays a wrong body into a copy of the repository, and asks the prover or a test about it."""
+import collections
+import os
+import re
+import shutil
+import subprocess
+import sys
+import tempfile
+
+from shared import ROOT
+
+FOLDER = "wrong_bodies"
+Result = collections.namedtuple("Result", "is_well said")
+
+
+class Body:
+    """A wrong body: its crate, its name, the texts that it changes, and the test that is to fail by it, if no clause can refuse it."""
+
+    def __init__(self, path):
+        self.path, self.crate = path, os.path.basename(os.path.dirname(path))
+        self.name = os.path.basename(path).removesuffix(".edit")
+        self.pairs, self.test, file, old = [], None, None, None
+        with open(path, encoding="utf-8") as it:
+            for line in it.read().split("\n"):
+                key, _, rest = line.partition(":")
+                rest = rest.removeprefix(" ")
+                if key == "file":
+                    file = rest.strip()
+                elif key == "old":
+                    old = rest
+                elif key == "new":
+                    self.pairs.append((file, old, rest))
+                elif key == "test":
+                    self.test = rest.split()
+
+    def changed(self, root):
+        """Returns the texts of the files that it changes, by their paths in the crate. Each old text has to stand in its file once."""
+        texts = {}
+        for file, old, new in self.pairs:
+            if file not in texts:
+                with open(f"{root}/crates/{self.crate}/{file}", encoding="utf-8") as it:
+                    texts[file] = it.read()
+            if texts[file].count(old) != 1:
+                raise ValueError(f"in {file} this stands {texts[file].count(old)} times: {old.strip()}")
+            texts[file] = texts[file].replace(old, new)
+        return texts
+
+    def fault(self, root):
+        """Says why it does not apply to the sources, or None."""
+        try:
+            self.changed(root)
+        except (OSError, ValueError) as why:
+            return str(why)
+        if not self.pairs:
+            return "it has no pair of lines old: and new:"
+        return self.test and test_fault(root, *self.test)
+
+
+def test_fault(root, crate, name):
+    """Says why a test is not there, or None."""
+    words = ["grep", "-rqE", f"fn {name.rpartition('::')[2]}\\(", f"{root}/crates/{crate}/src"]
+    return f"{crate} has no test {name}" if subprocess.run(words, check=False).returncode else None
+
+
+def crates():
+    """The crates that have wrong bodies."""
+    return sorted(os.listdir(f"{ROOT}/{FOLDER}"))
+
+
+def bodies_of(crate, names=()):
+    """The wrong bodies of a crate, or those of the given names. A name may be the first part of one."""
+    folder = f"{ROOT}/{FOLDER}/{crate}"
+    every = [Body(f"{folder}/{it}") for it in sorted(os.listdir(folder)) if it.endswith(".edit")]
+    unknown = [name for name in names if not any(it.name.startswith(name) for it in every)]
+    if unknown:
+        raise SystemExit(f"wrong_bodies: {crate} has none of the name {unknown[0]}")
+    return [it for it in every if not names or any(it.name.startswith(name) for name in names)]
+
+
+def list_all(chosen):
+    """Says of each wrong body of these crates whether it applies to the sources. Returns the status."""
+    bodies = [it for crate in chosen for it in bodies_of(crate)]
+    faults = [(it, it.fault(ROOT)) for it in bodies]
+    for it, why in faults:
+        if why:
+            print(f"{it.crate}/{it.name}: does not apply: {why}")
+    lost = sum(1 for _, why in faults if why)
+    print(f"{len(bodies) - lost} of {len(bodies)} wrong bodies apply, {sum(1 for it in bodies if it.test)} of them are for tests")
+    return 1 if lost else 0
+
+
+def copy_tree(to):
+    """Copies what the crates are proved from, as it stands in the checkout, and gives the copy what was proved on this machine."""
+    listed = ["git", "ls-files", "-z", "-c", "-o", "--exclude-standard", "--", "crates", "crates.txt", "HANDLES", "launcher"]
+    for name in subprocess.run(listed, cwd=ROOT, stdout=subprocess.PIPE, check=True).stdout.decode().split("\0"):
+        if name and os.path.exists(f"{ROOT}/{name}") and "/must-fail/" not in name:
+            os.makedirs(os.path.dirname(f"{to}/{name}"), exist_ok=True)
+            shutil.copy2(f"{ROOT}/{name}", f"{to}/{name}")
+
+
+def run(words, folder):
+    """Runs a command, one proof at a time if it proves. Returns what it said."""
+    how = {"stdin": subprocess.DEVNULL, "stdout": subprocess.PIPE, "stderr": subprocess.STDOUT, "errors": "replace"}
+    return subprocess.run(words, cwd=folder, env={"RT_JOBS": "1", **os.environ}, check=False, **how).stdout
+
+
+SAID = re.compile(r"must-fail \w+/(?P<name>[\w.-]+)\.edit: (?P<said>.*)")
+GOAL = re.compile(r"`(?P<goal>[^`]+)`")
+BY_NAME = "only because a proof file names what the edit took away"
+BY_LIMIT = "only by a limit of the prover"
+
+
+def verdict(said):
+    """Reads what `rt must-fail` said of an edit."""
+    why = said.partition("must be")[2].lstrip(": ")
+    if not said.startswith("refused"):
+        return Result(False, "let through: the crate is still proved" if said.startswith("NOT REFUSED") else said)
+    if BY_NAME in said:
+        return Result(False, f"refused at a name only: {why}")
+    if BY_LIMIT in said:
+        return Result(False, f"refused by a limit only: {why}")
+    goal = GOAL.search(why)
+    return Result(True, f"refused at the goal {goal['goal']}: {why}" if goal else f"refused: {why}")
+
+
+def refused(tree, crate, bodies):
+    """Tries bodies by the prover. Returns them with their results."""
+    folder = f"{tree}/crates/{crate}/must-fail"
+    os.makedirs(folder)
+    for it in bodies:
+        shutil.copy2(it.path, f"{folder}/{it.name}.edit")
+    said = run(["rt", "must-fail", crate], tree)
+    shutil.rmtree(folder)
+    told = {it["name"]: it["said"] for it in map(SAID.search, said.splitlines()) if it}
+    nothing = f"not tried: {said.strip()[-300:]}"
+    return [(it, verdict(told[it.name]) if it.name in told else Result(False, nothing)) for it in bodies]
+
+
+def fails(tree, body):
+    """Tries a body by its test. Returns the result."""
+    crate, name = body.test
+    texts = {f"{tree}/crates/{body.crate}/{file}": text for file, text in body.changed(tree).items()}
+    before = {path: read_text(path) for path in texts}
+    write_texts(texts)
+    try:
+        said = run(["rt", "try", "--test"], f"{tree}/crates/{crate}")
+    finally:
+        write_texts(before)
+    ended = re.search(rf"^test {re.escape(name)} \.\.\. (\w+)", said, re.MULTILINE)
+    if not ended:
+        return Result(False, f"not tried: {said.strip()[-300:]}")
+    return Result(True, f"the test {name} fails") if ended[1] == "FAILED" else Result(False, f"let through: the test {name} passes")
+
+
+def read_text(path):
+    """Returns the text of a file."""
+    with open(path, encoding="utf-8") as it:
+        return it.read()
+
+
+def write_texts(texts):
+    """Writes texts to files."""
+    for path, text in texts.items():
+        with open(path, "w", encoding="utf-8") as it:
+            it.write(text)
+
+
+def tried(tree, crate, bodies):
+    """Tries the wrong bodies of a crate, those for the prover first. Gives them with their results."""
+    by_proof = [it for it in bodies if not it.test]
+    if by_proof:
+        print(run(["launcher/take_proved", crate], tree).strip(), file=sys.stderr, flush=True)
+        yield from refused(tree, crate, by_proof)
+    for it in bodies:
+        if it.test:
+            yield it, fails(tree, it)
+
+
+def try_crate(crate, names=()):
+    """Tries the wrong bodies of a crate in a copy of the repository, and prints a line for each. Returns how many are not as they must be."""
+    counts = collections.Counter()
+    with tempfile.TemporaryDirectory(prefix="wrong-bodies-") as tree:
+        copy_tree(tree)
+        for it, result in tried(tree, crate, bodies_of(crate, names)):
+            print(f"{'' if result.is_well else 'BAD '}{it.crate}/{it.name}: {result.said}", flush=True)
+            counts["BAD" if not result.is_well else "test" if it.test else "goal"] += 1
+    print(f"{crate}: {counts['goal']} refused at a goal, {counts['test']} by a test, {counts['BAD']} BAD", flush=True)
+    return counts["BAD"]
+
+
+def main(words):
+    """Tries those of a crate, or of all; or says which apply to the sources. Returns the status."""
+    if "--list" in words:
+        return list_all([it for it in words if it != "--list"] or crates())
+    chosen = words[:1] or crates()
+    return 1 if sum([try_crate(it, words[1:]) for it in chosen]) else 0
+
+
+if __name__ == "__main__":
+    sys.exit(main(sys.argv[1:]))
