@@ -1,5 +1,6 @@
 """Wrong bodies of crates: the part of wrong_bodies that lays a wrong body into a copy of the repository, and asks the prover or a test about it."""
 import collections
+import contextlib
 import os
 import re
 import shutil
@@ -33,16 +34,16 @@ class Body:
                 elif key == "test":
                     self.test = rest.split()
 
-    def changed(self, root):
-        """Returns the texts of the files that it changes, by their paths in the crate. Each old text has to stand in its file once."""
-        texts = {}
+    def changed(self, root, before=None):
+        """Returns the texts of the files that it changes, by their paths. Each old text has to stand in its file once. Other changes may have been
+        made before: their texts are not read again."""
+        texts, before = {}, before or {}
         for file, old, new in self.pairs:
-            if file not in texts:
-                with open(f"{root}/crates/{self.crate}/{file}", encoding="utf-8") as it:
-                    texts[file] = it.read()
-            if texts[file].count(old) != 1:
-                raise ValueError(f"in {file} this stands {texts[file].count(old)} times: {old.strip()}")
-            texts[file] = texts[file].replace(old, new)
+            path = f"{root}/crates/{self.crate}/{file}"
+            text = texts.get(path) or before.get(path) or read_text(path)
+            if text.count(old) != 1:
+                raise ValueError(f"in {file} this stands {text.count(old)} times: {old.strip()}")
+            texts[path] = text.replace(old, new)
         return texts
 
     def fault(self, root):
@@ -136,10 +137,78 @@ def refused(tree, crate, bodies):
     return [(it, verdict(told[it.name]) if it.name in told else Result(False, nothing)) for it in bodies]
 
 
+def function_at(lines, number):
+    """The name of the function that a line of a file is in."""
+    heads = [it for it in (re.match(r"\s*(?:pub(?:\(\w+\))? )?(?:const )?(?:extern \"C\" )?fn (\w+)", line) for line in lines[:number]) if it]
+    return heads[-1][1] if heads else None
+
+
+def function_of(tree, body, line):
+    """The function that a line of the check speaks of, if it is in a file that a body changes or in the proof of a function."""
+    at = re.match(r"(?:note: )?(?:\./)?(\S+?):(\d+):\d+: ", line)
+    if not at:
+        return None
+    if at[1].startswith("proofs/"):
+        return os.path.basename(os.path.dirname(at[1]))
+    if at[1] in {file for file, _, _ in body.pairs}:
+        return function_at(read_text(f"{tree}/crates/{body.crate}/{at[1]}").split("\n"), int(at[2]))
+    return None
+
+
+BY_PROOF_NAME = re.compile(r"(note: )?(\./)?proofs/.*(has no field|is not in scope|has no `|was not admitted)")
+
+
+def verdict_of_function(tree, body, said):
+    """Reads what a check in which several bodies were laid said of the function of one."""
+    function = body.name.partition(".")[0]
+    lines = said.splitlines()
+    ends = [it for it in lines if re.match(rf"fn (\S*::)?{function}: ", it)]
+    own = [it for it in lines if (": error" in it or it.startswith("note: ")) and function_of(tree, body, it) == function]
+    goals = [it for it in own if not BY_PROOF_NAME.match(it)]
+    if goals:
+        return verdict(f"refused, as it must be: {goals[0]}")
+    if own:
+        return Result(False, f"refused at a name only: {own[0]}")
+    if any(it.endswith("not proved") for it in ends):
+        return Result(False, "refused, and no goal is named: try it alone")
+    if any(it.endswith(": proved") for it in ends):
+        return Result(False, "let through: the function is still proved")
+    return Result(False, f"not tried: {said.strip()[-300:]}")
+
+
+def modules_of(bodies):
+    """The modules that bodies change, as a check names them."""
+    files = {file for it in bodies for file, _, _ in it.pairs}
+    return sorted(it.removeprefix("src/").removesuffix(".rt").removesuffix("/mod").replace("/", "::") for it in files)
+
+
+def refused_together(tree, crate, bodies):
+    """Tries bodies by the prover, many in one check: those that change different functions. Gives them with their results."""
+    left = bodies
+    while left:
+        taken, texts, functions = [], {}, set()
+        for it in left:
+            function = it.name.partition(".")[0]
+            if function in functions:
+                continue
+            with contextlib.suppress(ValueError):
+                texts.update(it.changed(tree, texts))
+                functions.add(function)
+                taken.append(it)
+        before = {path: read_text(path) for path in texts}
+        write_texts(texts)
+        only = [word for it in modules_of(taken) for word in ("--only", it)]
+        said = run(["rt", "check", "--jobs", "1", *only], f"{tree}/crates/{crate}")
+        results = [(it, verdict_of_function(tree, it, said)) for it in taken]
+        write_texts(before)
+        yield from results
+        left = [it for it in left if it not in taken]
+
+
 def fails(tree, body):
     """Tries a body by its test. Returns the result."""
     crate, name = body.test
-    texts = {f"{tree}/crates/{body.crate}/{file}": text for file, text in body.changed(tree).items()}
+    texts = body.changed(tree)
     before = {path: read_text(path) for path in texts}
     write_texts(texts)
     try:
@@ -165,23 +234,23 @@ def write_texts(texts):
             it.write(text)
 
 
-def tried(tree, crate, bodies):
+def tried(tree, crate, bodies, together):
     """Tries the wrong bodies of a crate, those for the prover first. Gives them with their results."""
     by_proof = [it for it in bodies if not it.test]
     if by_proof:
         print(run(["launcher/take_proved", crate], tree).strip(), file=sys.stderr, flush=True)
-        yield from refused(tree, crate, by_proof)
+        yield from (refused_together if together else refused)(tree, crate, by_proof)
     for it in bodies:
         if it.test:
             yield it, fails(tree, it)
 
 
-def try_crate(crate, names=()):
+def try_crate(crate, names, together):
     """Tries the wrong bodies of a crate in a copy of the repository, and prints a line for each. Returns how many are not as they must be."""
     counts = collections.Counter()
-    with tempfile.TemporaryDirectory(prefix="wrong-bodies-") as tree:
+    with tempfile.TemporaryDirectory(prefix="wrong-crates-") as tree:
         copy_tree(tree)
-        for it, result in tried(tree, crate, bodies_of(crate, names)):
+        for it, result in tried(tree, crate, bodies_of(crate, names), together):
             print(f"{'' if result.is_well else 'BAD '}{it.crate}/{it.name}: {result.said}", flush=True)
             counts["BAD" if not result.is_well else "test" if it.test else "goal"] += 1
     print(f"{crate}: {counts['goal']} refused at a goal, {counts['test']} by a test, {counts['BAD']} BAD", flush=True)
@@ -192,8 +261,8 @@ def main(words):
     """Tries those of a crate, or of all; or says which apply to the sources. Returns the status."""
     if "--list" in words:
         return list_all([it for it in words if it != "--list"] or crates())
-    chosen = words[:1] or crates()
-    return 1 if sum([try_crate(it, words[1:]) for it in chosen]) else 0
+    together, words = "--together" in words, [it for it in words if it != "--together"]
+    return 1 if sum([try_crate(it, words[1:], together) for it in words[:1] or crates()]) else 0
 
 
 if __name__ == "__main__":
