@@ -182,27 +182,43 @@ def modules_of(bodies):
     return sorted(it.removeprefix("src/").removesuffix(".rt").removesuffix("/mod").replace("/", "::") for it in files)
 
 
+def laid_together(tree, bodies):
+    """Chooses bodies that change different functions. Returns them, and the texts of the files with all of them laid in."""
+    taken, texts = {}, {}
+    for it in bodies:
+        function = it.name.partition(".")[0]
+        if function not in taken:
+            with contextlib.suppress(ValueError):
+                texts.update(it.changed(tree, texts))
+                taken[function] = it
+    return list(taken.values()), texts
+
+
+def check_together(tree, crate, bodies, texts):
+    """Checks the modules that bodies change, with all of them laid in. Returns them with their results; or, if they can't be read, those that can't."""
+    before = {path: read_text(path) for path in texts}
+    write_texts(texts)
+    only = [word for it in modules_of(bodies) for word in ("--only", it)]
+    said = run(["rt", "check", "--jobs", "1", *only], f"{tree}/crates/{crate}")
+    unread = [it for it in said.splitlines() if "error[" in it]
+    if unread and "\nfn " not in said:
+        spoken = {it: next((line for line in unread if function_of(tree, it, line) == it.name.partition(".")[0]), None) for it in bodies}
+        results = [(it, Result(False, f"can't be read: {line}")) for it, line in spoken.items() if line]
+        results = results or [(it, Result(False, f"not tried: {unread[0]}")) for it in bodies]
+    else:
+        results = [(it, verdict_of_function(tree, it, said)) for it in bodies]
+    write_texts(before)
+    return results
+
+
 def refused_together(tree, crate, bodies):
     """Tries bodies by the prover, many in one check: those that change different functions. Gives them with their results."""
     left = bodies
     while left:
-        taken, texts, functions = [], {}, set()
-        for it in left:
-            function = it.name.partition(".")[0]
-            if function in functions:
-                continue
-            with contextlib.suppress(ValueError):
-                texts.update(it.changed(tree, texts))
-                functions.add(function)
-                taken.append(it)
-        before = {path: read_text(path) for path in texts}
-        write_texts(texts)
-        only = [word for it in modules_of(taken) for word in ("--only", it)]
-        said = run(["rt", "check", "--jobs", "1", *only], f"{tree}/crates/{crate}")
-        results = [(it, verdict_of_function(tree, it, said)) for it in taken]
-        write_texts(before)
+        results = check_together(tree, crate, *laid_together(tree, left))
         yield from results
-        left = [it for it in left if it not in taken]
+        done = [it for it, _ in results]
+        left = [it for it in left if it not in done]
 
 
 def fails(tree, body):
