@@ -1,4 +1,16 @@
-"""Wrong bodies of crates: the part of wrong_bodies that lays a wrong body into a copy of the repository, and asks the prover or a test about it."""
+"""The part of wrong_bodies that is of crates: it lays wrong bodies into a copy of the repository, and asks the prover or a test about each.
+
+wrong_bodies [CRATE [NAME..]] [--together]    tries those of a crate, or of all; a NAME may be the first part of one
+wrong_bodies --list [CRATE..]                 looks whether each old text stands in its file once, in a second
+
+A file wrong_bodies/CRATE/FUNCTION.what_it_does_wrong.edit has the lines of a must-fail edit (`file:`, and pairs of `old:` and `new:`). `rt must-fail`
+has to refuse it at a goal: that it is refused at a name of its proof only, by a limit only, or not at all is BAD. If no clause can refuse it, a
+line `test: CRATE NAME` names the test that has to fail. The status is 1 if one is BAD.
+
+`rt must-fail` proves the crate first, and then tries one after another. With --together one check has the bodies of many functions: a function
+is proved from the contracts of others alone, so none hides another. It takes a tenth of the time. One that is refused with no goal named, since
+what it calls was refused too, is to be tried alone.
+"""
 import collections
 import contextlib
 import os
