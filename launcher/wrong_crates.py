@@ -243,7 +243,7 @@ def fails(tree, body):
         said = run(["rt", "try", "--test"], f"{tree}/crates/{crate}")
     finally:
         write_texts(before)
-    ended = re.search(rf"^test {re.escape(name)} \.\.\. (\w+)", said, re.MULTILINE)
+    ended = re.search(rf"^test (?:\S+::)?{name.rpartition('::')[2]} \.\.\. (\w+)", said, re.MULTILINE)
     if not ended:
         return Result(False, f"not tried: {said.strip()[-300:]}")
     return Result(True, f"the test {name} fails") if ended[1] == "FAILED" else Result(False, f"let through: the test {name} passes")
