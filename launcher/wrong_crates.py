@@ -8,7 +8,7 @@ has to refuse it at a goal: that it is refused at a name of its proof only, by a
 line `test: CRATE NAME` names the test that has to fail. The status is 1 if one is BAD.
 
 `rt must-fail` proves the crate first, and then tries one after another. With --together one check has the bodies of many functions: a function
-is proved from the contracts of others alone, so none hides another. It takes a tenth of the time. One that is refused with no goal named, since
+is proved from the contracts of others alone, so none hides another, and the crate is proved once. One that is refused with no goal named, since
 what it calls was refused too, is to be tried alone.
 """
 import collections
