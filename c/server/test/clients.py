@@ -59,7 +59,7 @@ def never_reads():
 
 @shows("the memory of answers that a client took late, and of a request that came in pieces, is given back while the client stays")
 def memory_of_clients():
-    value, count = b"v" * 1000, 30
+    value, count = b"v" * 1000, 120
     one, gets = b"VALUE v 0 1000\r\n" + value + b"\r\nEND\r\n", 400
     with server("-t", "1", environment={"MALLOC_MMAP_THRESHOLD_": "1024"}) as it:  # each piece of memory is one of the system's
         asks, clients = it.client(), it.greeted(1 + count)
