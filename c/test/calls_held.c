@@ -101,17 +101,9 @@ static void call_all(kangaroo_cache *cache, uint32_t key) {
     expect_status(kangaroo_put_or_remove(cache, &key, n, value, sizeof value, KANGAROO_NEVER), KANGAROO_OK, "or remove");
 }
 
-static kangaroo_cache *open_lanes(const char *folder, uint32_t threads) {
-    kangaroo_options options = small_options();
-    options.lanes = LANES;
-    options.sets = 255;
-    options.upkeep_threads = threads;
-    return open_with(&options, folder);
-}
-
 static void shows_locks(const char *folder) {
     kangaroo_counters counters;
-    kangaroo_cache *cache = open_lanes(folder, 1);
+    kangaroo_cache *cache = open_lanes_of(folder, LANES, 1);
     long all = 0;
     for (uint32_t key = 0; key < KEYS; key++) call_all(cache, key);
     for (int i = 0; i < 20; i++) {
@@ -128,7 +120,7 @@ static void shows_locks(const char *folder) {
 
 /* While all lanes are due, calls of one step each come to each lane once, and then again. */
 static void shows_rounds(const char *folder) {
-    kangaroo_cache *cache = open_lanes(folder, 0);
+    kangaroo_cache *cache = open_lanes_of(folder, LANES, 0);
     char value[200] = {0};
     for (uint32_t key = 0; key < 6000; key++)
         expect_status(kangaroo_put(cache, &key, sizeof key, value, sizeof value, KANGAROO_NEVER), KANGAROO_OK, "a put");

@@ -55,14 +55,6 @@ int pthread_cond_signal(pthread_cond_t *of) {
 
 /* ------------------------------------------------------------------------------------------------------------------- calls */
 
-static kangaroo_cache *open_lanes(const char *folder, uint32_t threads) {
-    kangaroo_options options = small_options();
-    options.lanes = LANES;
-    options.sets = 255;
-    options.upkeep_threads = threads;
-    return open_with(&options, folder);
-}
-
 static void put(kangaroo_cache *cache, uint32_t key) {
     char value[SIZE];
     memset(value, (int)key, sizeof value);
@@ -106,7 +98,7 @@ static void shows_rounds(kangaroo_cache *cache) {
 }
 
 static void shows_calls(const char *folder) {
-    kangaroo_cache *cache = open_lanes(folder, 0);
+    kangaroo_cache *cache = open_lanes_of(folder, LANES, 0);
     for (uint32_t key = 0; key < 8000; key++) {
         put(cache, key);
         expect_status(kangaroo_upkeep(cache, UINT32_MAX, NULL), KANGAROO_OK, "upkeep");
@@ -119,7 +111,7 @@ static void shows_calls(const char *folder) {
 }
 
 static void shows_thread(const char *folder) {
-    kangaroo_cache *cache = open_lanes(folder, 1);
+    kangaroo_cache *cache = open_lanes_of(folder, LANES, 1);
     for (uint32_t key = 0; key < 8000; key++) put(cache, key);
     expect_idle(cache, "each lane was tended");
     kangaroo_counters all = counted(cache);
@@ -129,7 +121,7 @@ static void shows_thread(const char *folder) {
 }
 
 static void shows_refused_memory(const char *folder) {
-    kangaroo_cache *cache = open_lanes(folder, 1);
+    kangaroo_cache *cache = open_lanes_of(folder, LANES, 1);
     uint32_t key = 0;
     wait_for_sleep();
     atomic_store(&refuses, true);
@@ -149,7 +141,7 @@ static void shows_refused_memory(const char *folder) {
 
 /* While the thread is stalled all lanes become due. Then it finds each of them held, as often as it asks for a while. */
 static void shows_held_lanes(const char *folder) {
-    kangaroo_cache *cache = open_lanes(folder, 1);
+    kangaroo_cache *cache = open_lanes_of(folder, LANES, 1);
     wait_for_sleep();
     for (uint32_t key = 0; key < 20000; key += 500) {
         atomic_store(&stalls, true);
@@ -179,7 +171,7 @@ static bool are_all_tried(const long first) {
 
 /* All lanes are due, with many steps each. The thread does one of the lane that waits longest, so it goes round them. */
 static void shows_turns(const char *folder) {
-    kangaroo_cache *cache = open_lanes(folder, 1);
+    kangaroo_cache *cache = open_lanes_of(folder, LANES, 1);
     wait_for_sleep();
     atomic_store(&stalls, true);
     for (uint32_t key = 0; key < 6000; key++) put(cache, key);

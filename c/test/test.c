@@ -80,6 +80,14 @@ kangaroo_cache *open_with(const kangaroo_options *options, const char *folder) {
     return cache;
 }
 
+kangaroo_cache *open_lanes_of(const char *folder, uint32_t lanes, uint32_t threads) {
+    kangaroo_options options = small_options();
+    options.lanes = lanes;
+    options.sets = 255;
+    options.upkeep_threads = threads;
+    return open_with(&options, folder);
+}
+
 kangaroo_cache *open_small(const char *folder) {
     kangaroo_options options = small_options();
     return open_with(&options, folder);

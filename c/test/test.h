@@ -43,6 +43,8 @@ void path_in(const char *folder, const char *name, char path[2 * PATH_BYTES]);
 kangaroo_options small_options(void);
 /* Opens a cache, or ends the test. */
 kangaroo_cache *open_with(const kangaroo_options *options, const char *folder);
+/* The same with small_options, but for so many lanes of 255 sets, and so many threads that tend them. */
+kangaroo_cache *open_lanes_of(const char *folder, uint32_t lanes, uint32_t threads);
 /* Opens a small cache. */
 kangaroo_cache *open_small(const char *folder);
 /* Closes a cache, or ends the test. */
