@@ -5,7 +5,7 @@ import re
 import socket
 import time
 
-from harness import IS_QUICK, Client, all_at_once, equal, expect, free_port, grew_little, have_descriptors, server, shows, wait_for
+from harness import IS_QUICK, MORE, Client, Skipped, all_at_once, equal, expect, free_port, grew_little, have_descriptors, server, shows, wait_for
 
 MANY = int(os.environ.get("MANY", "1000"))
 
@@ -59,6 +59,8 @@ def never_reads():
 
 @shows("the memory of answers that a client took late, and of a request that came in pieces, is given back while the client stays")
 def memory_of_clients():
+    if MORE > 1:
+        raise Skipped("the C library's own memory, which a sanitizer replaces")
     value, count = b"v" * 1000, 120
     one, gets = b"VALUE v 0 1000\r\n" + value + b"\r\nEND\r\n", 400
     with server("-t", "1", environment={"MALLOC_MMAP_THRESHOLD_": "1024"}) as it:  # each piece of memory is one of the system's
