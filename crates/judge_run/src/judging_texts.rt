@@ -1,16 +1,20 @@
 // Judging the history of a text, and telling its verdict.
-ghost use Rattle.std.specs.Prelude.{◌≡◌, ◌≢◌, true, false, IfOk, IfErr, string_bytes};
+ghost use Rattle.std.specs.Prelude.{◌≡◌, ◌≢◌, IfOk, IfErr, length, string_bytes};
 ghost use Rattle.certificate_finder.specs.Finding.{IfRejected, IsFound};
-ghost use Rattle.certificate_finder.specs.Witnesses.{IsWitness};
+ghost use Rattle.figures.specs.Figures.{ended};
+ghost use Rattle.history_picture.specs.Names.{names_of};
+ghost use Rattle.history_picture.specs.Reasons.{reason_of};
 ghost use Rattle.history_text.specs.Text.{text_by};
 ghost use Rattle.history_text.specs.Writing.{named};
+ghost use Rattle.judge_run.specs.FaultsTold.{listed, more_text};
+ghost use Rattle.judge_run.specs.FromStart.{start_lines};
 ghost use Rattle.judge_run.specs.Listing.{IsListed};
 ghost use Rattle.judge_run.specs.Streams.{was_accepted, was_decided};
-ghost use Rattle.judge_run.specs.TextTold.{IsHistoryTold, IsTextTold, IsTextUntold, ToldText, acceptance_of, bad_answer, rejected_begun, told_accepted, told_decided};
+ghost use Rattle.judge_run.specs.TextTold.{IsHistoryTold, IsTextTold, IsTextUntold, ToldText, acceptance_of, bad_answer, told_accepted, told_decided};
+ghost use Rattle.judge_run.specs.Told.{IsBehind};
 
 use crate::acceptance::Acceptance;
 use crate::answers::ended;
-use crate::call_objects::with_calls;
 use crate::detail::Detail;
 use crate::extent::Extent;
 use crate::extents::{own_of, recorded_of};
@@ -26,7 +30,7 @@ use crate::outcome::Outcome;
 use crate::rejection::Rejection;
 use crate::scope::Scope;
 use crate::tell_fault::TellFault;
-use crate::text_answers::{bad_answer, found_begun};
+use crate::text_answers::{bad_answer, front_of};
 use certificate_finder::{Found, Witness};
 use figures::Form;
 use history_picture::Reason;
@@ -116,31 +120,52 @@ fn told_judged<S: BuildHasher + Drop>(
     ensures accepted { IfOk result (λ told. told_accepted told.outcome ≡ was_accepted judged.found) }
     ensures decided { IfOk result (λ told. told_decided told.outcome ≡ was_decided judged.found) }
 {
-    let text = found_begun(alloc, form, &judged)?;
+    let Ok(begun) = front_of(alloc, form, &judged) else {
+        return Err(AllocError);
+    };
     let JudgedText {
-        text: history,
+        text,
         extent,
         found,
         faults,
     } = judged;
     match found {
         Found::Accepted(certificate) => {
-            let text = ended(form, text)?;
-            let outcome = accepted_of(&extent, history.history, certificate);
-            Ok(JudgeReport { text, outcome })
+            let outcome = accepted_of(&extent, text.history, certificate);
+            match reported(form, begun, outcome) {
+                Ok(told) => Ok(told),
+                Err(refused) => Err(refused),
+            }
         }
-        Found::Rejected(witness) => match told_rejected(
-            alloc, form, text, history, &extent, witness, &faults, detail,
-        ) {
-            Ok(told) => Ok(told),
-            Err(refused) => Err(refused),
-        },
+        Found::Rejected(witness) => {
+            let recorded = own_of(&extent, text.history.len());
+            let Ok(rejection) = rejection_of(alloc, text, recorded, witness) else {
+                return Err(AllocError);
+            };
+            match told_rejected(alloc, form, begun, rejection, recorded, &faults, detail) {
+                Ok(told) => Ok(told),
+                Err(refused) => Err(refused),
+            }
+        }
         Found::Undecided(hits) => {
-            let text = ended(form, text)?;
             let outcome = Outcome::Undecided(hits.len());
-            Ok(JudgeReport { text, outcome })
+            match reported(form, begun, outcome) {
+                Ok(told) => Ok(told),
+                Err(refused) => Err(refused),
+            }
         }
     }
+}
+
+/// The report of this outcome, whose answer was begun and ends there.
+fn reported(form: Form, begun: String, outcome: Outcome) -> Result<JudgeReport, AllocError>
+    ensures outcome { IfOk result (λ told. told.outcome ≡ outcome) }
+    ensures text { IfOk result (λ told. string_bytes told.text ≡ ended form (string_bytes begun)) }
+{
+    let Ok(text) = ended(form, begun) else {
+        return Err(AllocError);
+    };
+    Ok(JudgeReport { text, outcome })
 }
 
 /// The outcome of a history that is accepted with this certificate.
@@ -155,64 +180,91 @@ fn accepted_of(extent: &Extent, history: History, certificate: Certificate) -> O
     Outcome::Accepted(Acceptance { trace, recorded })
 }
 
-/// The report on a history that is rejected, after the answer that was begun with its verdict.
-fn told_rejected<S: BuildHasher + Drop>(
+/// What is kept of a history that is rejected, of which so many calls were recorded, and why it is.
+fn rejection_of<S: BuildHasher + Drop>(
+    alloc: Global,
+    text: TextHistory<S>,
+    recorded: usize,
+    witness: Witness,
+) -> Result<Rejection, AllocError>
+    ensures text { IfOk result (λ rejection.
+        text_by rejection.history rejection.lines.items (names_of rejection.callers.items)
+        ≡ text_by text.history text.lines.items text.callers) }
+    ensures from_start { IfOk result (λ rejection.
+        rejection.from_start.items ≡ start_lines text.lines.items recorded witness) }
+    ensures reason { IfOk result (λ rejection. rejection.reason ≡ reason_of witness) }
+{
+    let Ok(from_start) = start_lines(alloc, &text.lines, recorded, &witness) else {
+        return Err(AllocError);
+    };
+    let Ok(callers) = copy_names(alloc, text.callers.names()) else {
+        return Err(AllocError);
+    };
+    Ok(Rejection {
+        history: text.history,
+        lines: text.lines,
+        callers,
+        from_start,
+        reason: Reason::of_witness(witness),
+    })
+}
+
+/// The report on a history that is rejected, after the answer that was begun with its verdict. So many calls were recorded.
+fn told_rejected(
     alloc: Global,
     form: Form,
     begun: String,
-    text: TextHistory<S>,
-    extent: &Extent,
-    witness: Witness,
+    rejection: Rejection,
+    recorded: usize,
     list: &FaultList,
     detail: Detail,
 ) -> Result<JudgeReport, AllocError>
-    requires witness { IsWitness text.history witness }
-    requires list { IsListed text.history list.now }
-    requires begun { string_bytes begun
-        ≡ rejected_begun form (text_by text.history text.lines.items text.callers) extent.now witness
-        list.now.faults.items }
-    ensures told { IfOk result (λ told. IsHistoryTold form
-        (text_by text.history text.lines.items text.callers)
-        extent.now detail told.outcome (string_bytes told.text)) }
-    ensures accepted { IfOk result (λ told. told_accepted told.outcome ≡ false) }
-    ensures decided { IfOk result (λ told. told_decided told.outcome ≡ true) }
+    ensures outcome { IfOk result (λ told. told.outcome ≡ Outcome.Rejected rejection) }
+    ensures text { IfOk result (λ told. IsBehind form detail.explain
+        (more_text (length list.now.faults.items) list.now.keys) rejection
+        (listed form detail.all rejection.history rejection.lines.items recorded list.now.faults.items
+        (string_bytes begun)) (string_bytes told.text)) }
 {
-    let recorded = own_of(extent, text.history.len());
-    let begun = with_calls(
-        alloc,
-        form,
-        begun,
-        &text.history,
-        &text.lines,
-        recorded,
-        &witness,
-    )?;
-    let from_start = start_lines(alloc, &text.lines, recorded, &witness)?;
-    let TextHistory {
-        history,
-        lines,
-        callers,
-    } = text;
-    let rejection = Rejection {
-        history,
-        lines,
-        callers: copy_names(alloc, callers.names())?,
-        from_start,
-        reason: Reason::of_witness(witness),
+    let Ok(text) = rejection_text(alloc, form, begun, &rejection, recorded, list, detail) else {
+        return Err(AllocError);
     };
-    let begun = listed(
+    let outcome = Outcome::Rejected(rejection);
+    Ok(JudgeReport { text, outcome })
+}
+
+/// The answer that was begun with a rejection, with what is wanted after it: all faults, and why the history is rejected.
+fn rejection_text(
+    alloc: Global,
+    form: Form,
+    begun: String,
+    rejection: &Rejection,
+    recorded: usize,
+    list: &FaultList,
+    detail: Detail,
+) -> Result<String, AllocError>
+    ensures { IfOk result (λ text. IsBehind form detail.explain
+        (more_text (length list.now.faults.items) list.now.keys) rejection.now
+        (listed form detail.all rejection.now.history rejection.now.lines.items recorded
+        list.now.faults.items (string_bytes begun)) (string_bytes text)) }
+{
+    let Ok(begun) = listed(
         alloc,
         form,
         detail.all,
         begun,
-        &rejection,
+        rejection,
         recorded,
         &list.faults,
-    )?;
-    let more = more_text(alloc, list.faults.len(), list.keys)?;
-    let text = rejection.told_behind(alloc, form, begun, detail.explain, more.as_str())?;
-    let outcome = Outcome::Rejected(rejection);
-    Ok(JudgeReport { text, outcome })
+    ) else {
+        return Err(AllocError);
+    };
+    let Ok(more) = more_text(alloc, list.faults.len(), list.keys) else {
+        return Err(AllocError);
+    };
+    match rejection.told_behind(alloc, form, begun, detail.explain, more.as_str()) {
+        Ok(text) => Ok(text),
+        Err(refused) => Err(refused),
+    }
 }
 
 /// The report on a text with a bad line.
