@@ -2,13 +2,12 @@
 use crate::tests::judging::{
     End, checked, counted, judged, junit_of, shown, streamed, trace_of, turn, whole,
 };
-use crate::tests::made::is;
 use crate::tests::reading::{key_told, named, tell_came, told_of};
 use figures::Form;
 use judge_run::{Detail, JudgeEnd, Scope, TellFault};
 use std::alloc::{AllocError, Global};
 use std::test::Fail;
-use test_devices::{Scripted, Step, find_wrong_line};
+use test_devices::{Scripted, Step, find_wrong_line, is};
 
 /// What steps are given, what they have to report, and what is asked of those to come.
 #[derive(Drop)]

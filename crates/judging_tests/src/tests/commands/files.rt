@@ -1,6 +1,5 @@
 //! Files and standard input that are read, and files that are written.
 use crate::tests::cases::{parted, push_line};
-use crate::tests::made::is;
 use history_text::Share;
 use judge_run::{
     CheckRequest, Detail, JudgeRequest, Scope, ShowRequest, check_with, judge_with, run_check,
@@ -12,7 +11,7 @@ use std::mem::replace;
 use std::random::RandomSource;
 use std::rt::Files;
 use std::test::Fail;
-use test_devices::{Scripted, Step, run_text};
+use test_devices::{Scripted, Step, is, run_text};
 use trace_file::FileName;
 
 /// A trace of two puts, of `k` and of `j`.
