@@ -1,7 +1,7 @@
 -- The lines of calls in a page: those of the text of a history, each after the number of the line where the call was recorded.
-use Rattle.std.specs.Prelude.{ℕ, Bool, true, false, nat_lt, List, [], ◌++◌, Option, Some, None, codes, slice_get}
+use Rattle.std.specs.Prelude.{ℕ, Bool, true, false, nat_lt, List, [], ◌++◌, Option, Some, None, codes, length, slice_get}
 use Rattle.std.specs.Fmt.{decimal}
-use Rattle.std.specs.List.{flat_map}
+use Rattle.std.specs.List.{flat_map, range_with_len}
 use Rattle.trace_file.specs.declared.call.Call.{Call}
 use Rattle.history_text.specs.Coding.{word_of}
 use Rattle.history_text.specs.Writing.{act_text, end_text}
@@ -41,6 +41,6 @@ abbrev pub line_at : List Call → List ℕ → List (List ℕ) → ℕ → ℕ 
 line_at history lines names recorded position =
     line_of names (nat_lt position recorded) (line_number (slice_get lines position) position) (slice_get history position)
 
--- the lines of the calls at these positions
-abbrev pub calls_text : List Call → List ℕ → List (List ℕ) → ℕ → List ℕ → List ℕ
-calls_text history lines names recorded shown = flat_map (line_at history lines names recorded) shown
+-- the lines of all calls
+abbrev pub calls_text : List Call → List ℕ → List (List ℕ) → ℕ → List ℕ
+calls_text history lines names recorded = flat_map (line_at history lines names recorded) (range_with_len 0 (length history))

@@ -5,7 +5,7 @@ use Rattle.history_page.specs.declared.fixed.TheConstants.{HEAD, MIDDLE, TAIL}
 use Rattle.history_page.specs.CallLines.{calls_text}
 use Rattle.history_page.specs.Guarding.{guard}
 
--- the page of a history of which so many calls were recorded: the calls at these positions are drawn, and what the report says is told
-abbrev pub page_text : List Call → List ℕ → List (List ℕ) → ℕ → List ℕ → List ℕ → List ℕ
-page_text history lines names recorded shown report =
-    HEAD.now ++ (guard (calls_text history lines names recorded shown) ++ (MIDDLE.now ++ (guard report ++ TAIL.now)))
+-- the page of a history of which so many calls were recorded: its calls are drawn, and what the report says is told
+abbrev pub page_text : List Call → List ℕ → List (List ℕ) → ℕ → List ℕ → List ℕ
+page_text history lines names recorded report =
+    HEAD.now ++ (guard (calls_text history lines names recorded) ++ (MIDDLE.now ++ (guard report ++ TAIL.now)))

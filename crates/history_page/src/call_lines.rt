@@ -1,6 +1,5 @@
 // The lines of calls in a page.
-ghost use Rattle.std.specs.Prelude.{◌≡◌, ◌++◌, IfOk, OnOk, nat_lt, slice_get, string_bytes};
-ghost use Rattle.std.specs.List.{flat_map};
+ghost use Rattle.std.specs.Prelude.{◌≡◌, ◌<◌, ◌++◌, IfOk, OnOk, length, slice_get, string_bytes};
 ghost use Rattle.trace_file.specs.Lent.{call_shown};
 ghost use Rattle.history_picture.specs.Names.{names_of};
 ghost use Rattle.history_page.specs.CallLines.{call_line, caller_word, calls_text, front_text, line_at, line_number, line_word};
@@ -13,17 +12,19 @@ use std::alloc::{AllocError, Global};
 use trace_file::CallRef;
 
 /// The number of the line of the call at a position; its position if it has no line.
-fn line_number(lines: &[u32], position: u32) -> u32
+#[tactic(auto, using(std::proofs::lemmas::Option::slice_get_past))]
+fn line_number(lines: &[u32], position: usize) -> usize
     ensures { result ≡ line_number (slice_get lines.now position) position }
 {
-    match lines.get(position as usize) {
-        Some(line) => *line,
-        None => position,
+    if position < lines.len() {
+        lines[position] as usize
+    } else {
+        position
     }
 }
 
 /// A line's number as a word, after a plus if no call was recorded there.
-fn line_word(alloc: Global, is_recorded: bool, line: u32) -> Result<String, AllocError>
+fn line_word(alloc: Global, is_recorded: bool, line: usize) -> Result<String, AllocError>
     ensures { IfOk result (λ text. string_bytes text ≡ line_word is_recorded line) }
 {
     if is_recorded {
@@ -51,7 +52,7 @@ fn front_text(
     alloc: Global,
     names: &[Vec<u8>],
     is_recorded: bool,
-    line: u32,
+    line: usize,
     call: &CallRef<'_>,
 ) -> Result<String, AllocError>
     ensures { IfOk result (λ text. string_bytes text
@@ -69,7 +70,7 @@ fn call_line(
     alloc: Global,
     names: &[Vec<u8>],
     is_recorded: bool,
-    line: u32,
+    line: usize,
     call: &CallRef<'_>,
 ) -> Result<String, AllocError>
     ensures { IfOk result (λ text. string_bytes text
@@ -83,37 +84,35 @@ fn call_line(
     }
 }
 
-/// The line of the call at a position, if so many calls were recorded; nothing if there is no such call.
+/// The line of the call at a position, if so many calls were recorded.
 fn line_at(
     alloc: Global,
     scene: &Scene<'_>,
     recorded: usize,
-    position: u32,
+    position: usize,
 ) -> Result<String, AllocError>
+    requires { position < length scene.now.history.now }
     ensures { IfOk result (λ text. string_bytes text ≡ line_at scene.now.history.now
         scene.now.lines.now (names_of scene.now.callers.now) recorded position) }
 {
-    let place = position as usize;
-    if place >= scene.history.len() {
-        return Ok(String::new(alloc));
-    }
     let line = line_number(scene.lines, position);
-    let is_recorded = place < recorded;
-    let call = scene.history.at(place);
+    let is_recorded = position < recorded;
+    let call = scene.history.at(position);
     match call_line(alloc, scene.callers, is_recorded, line, &call) {
         Ok(text) => Ok(text),
         Err(refused) => Err(refused),
     }
 }
 
-/// Appends the line of the call at a position, guarded.
+/// Appends the same, guarded.
 fn push_line(
     alloc: Global,
     page: &mut Vec<u8>,
     scene: &Scene<'_>,
     recorded: usize,
-    position: u32,
+    position: usize,
 ) -> Result<(), AllocError>
+    requires { position < length scene.now.history.now }
     ensures { OnOk result (page.new.items ≡ page.old.items ++ guard (line_at scene.now.history.now
         scene.now.lines.now (names_of scene.now.callers.now) recorded position)) }
 {
@@ -121,19 +120,18 @@ fn push_line(
     push_guarded(page, line.as_str())
 }
 
-/// Appends the lines of the calls at these positions, guarded.
+/// Appends the lines of all calls, guarded.
 pub(crate) fn push_calls(
     alloc: Global,
     page: &mut Vec<u8>,
     scene: &Scene<'_>,
     recorded: usize,
-    shown: &[u32],
 ) -> Result<(), AllocError>
     ensures { OnOk result (page.new.items ≡ page.old.items ++ guard (calls_text scene.now.history.now
-        scene.now.lines.now (names_of scene.now.callers.now) recorded shown.now)) }
+        scene.now.lines.now (names_of scene.now.callers.now) recorded)) }
 {
-    for position in shown {
-        match push_line(alloc, page, scene, recorded, *position) {
+    for position in 0..scene.history.len() {
+        match push_line(alloc, page, scene, recorded, position) {
             Ok(()) => {}
             Err(refused) => return Err(refused),
         }
