@@ -50,7 +50,7 @@ section { overflow: auto; padding: 10px 12px; }
 #one { font: 12px/1.45 ui-monospace, monospace; white-space: pre-wrap; margin: 0 0 4px; }
 #rows { overflow-x: auto; }
 table { border-collapse: collapse; font: 12px/1.4 ui-monospace, monospace; margin-top: 6px; }
-th, td { text-align: left; padding: 1px 10px 1px 0; vertical-align: top; white-space: nowrap; }
+th, td { text-align: left; padding: 1px 7px 1px 0; white-space: nowrap; }
 th.number, td.number { text-align: right; }
 #tip { position: fixed; z-index: 2; display: none; pointer-events: none; max-width: 60ch; background: var(--panel); border: 1px solid var(--line); border-radius: 4px; padding: 3px 7px; font: 12px/1.4 ui-monospace, monospace; white-space: pre-wrap; overflow-wrap: anywhere; }
 noscript { display: block; padding: 12px; }
@@ -122,7 +122,7 @@ const place = new Float64Array(total), line_of = new Float64Array(total), added 
 const caller = new Int32Array(total), kind = new Uint8Array(total), key_of = new Int32Array(total);
 const start = new Float64Array(total), end = new Float64Array(total);
 const callers = [], caller_numbers = new Map(), keys = [], key_numbers = new Map(), at_line = new Map();
-let base_high = 0, base_low = 0, earliest = 0;
+let base = 0n, zero = 0, earliest = Infinity;
 
 function number_of(numbers, names, name) {
   let number = numbers.get(name);
@@ -135,6 +135,9 @@ function digits(from, to) {
   for (let i = from; i < to; i++) number = number * 10 + text.charCodeAt(i) - 48;
   return number;
 }
+
+// A call whose times are both 0 tells what was there before the others.
+function is_before(n) { return total > 1 && start[n] === zero && end[n] <= zero; }
 
 (function read() {
   const high = new Float64Array(2 * total), low = new Float64Array(2 * total);
@@ -172,19 +175,19 @@ function digits(from, to) {
   }
   // Times are counted from the start of a middle call, so that they are exact within 2^53 of it.
   const middle = total >> 1;
+  let base_high = 0, base_low = 0;
   if (total) {
     const rough = Float64Array.from({ length: total }, (_, n) => high[2 * n] * 1e10 + low[2 * n]).sort();
     for (let n = 0; n < total; n++) if (high[2 * n] * 1e10 + low[2 * n] === rough[middle]) { base_high = high[2 * n]; base_low = low[2 * n]; break; }
   }
-  earliest = Infinity;
+  base = BigInt(base_high) * 10000000000n + BigInt(base_low);
+  zero = Number(-base);
   for (let n = 0; n < total; n++) {
     start[n] = (high[2 * n] - base_high) * 1e10 + (low[2 * n] - base_low);
     end[n] = (high[2 * n + 1] - base_high) * 1e10 + (low[2 * n + 1] - base_low);
-    if (start[n] < earliest && (high[2 * n] > 0 || low[2 * n] > 0)) earliest = start[n];
+    if (start[n] < earliest && !is_before(n)) earliest = start[n];
   }
 })();
-const base = BigInt(base_high) * 10000000000n + BigInt(base_low);
-const zero = Number(-base);
 
 function line_text(call) { return text.slice(place[call], text.indexOf("\n", place[call])); }
 
@@ -197,12 +200,13 @@ function told(call) {
   return { line: words[0].replace("+", ""), caller: words[1], start: words[2], end: words[3], act: words[4], key: words[5], value: words[6] || "", time: words[7] || "" };
 }
 
-// A stamp, counted from the first start that is not 0.
-const origin = earliest < Infinity ? base + BigInt(earliest) : 0n;
+// A stamp, counted from the first start, as on the ruler.
+if (earliest === Infinity) earliest = 0;
+const origin = base + BigInt(earliest);
 function since(stamp) {
   if (stamp === "-") return "-";
   const time = BigInt(stamp) - origin;
-  return stamp === "0" && origin > 0n ? "0" : (time < 0n ? "" : "+") + time.toLocaleString("en");
+  return (time > 0n ? "+" : "") + time.toLocaleString("en");
 }
 
 function lasted(call) {
@@ -323,12 +327,12 @@ function rank(stamp) {
   return low;
 }
 
-// From where to where there are calls. Those at the stamp 0 are of what was there before: they don't widen the view.
+// From where to where there are calls. Those of what was there before don't widen the view.
 function spans() {
   first = Infinity;
   last = -Infinity;
   for (const row of rows) for (const lane of row.lanes) for (const n of lane.calls) {
-    if (start[n] === zero && total > 1 && right[n] <= left[n]) continue;
+    if (is_before(n)) continue;
     if (left[n] < first) first = left[n];
     const to = right[n] < Infinity ? Math.max(right[n], left[n]) : left[n];
     if (to > last) last = to;
@@ -489,7 +493,7 @@ function draw_names() {
   }
 }
 
-// The ruler: how long after the first call shown, or with columns by order the number of the column.
+// The ruler: how long after the first start, or with columns by order the number of the stamp.
 function draw_ruler(to_x) {
   pen.fillStyle = colours.panel;
   pen.fillRect(0, 0, wide, RULER);
@@ -499,8 +503,9 @@ function draw_ruler(to_x) {
   let step = Math.pow(10, Math.ceil(Math.log10(least)));
   if (step / 5 >= least) step /= 5; else if (step / 2 >= least) step /= 2;
   step = Math.max(1, step);
-  for (let x = Math.ceil((view.from - first) / step) * step; x <= to_x - first; x += step) {
-    const px = across(first + x);
+  const origin_x = by_order ? -1 : earliest;
+  for (let x = Math.ceil((view.from - origin_x) / step) * step || 0; x <= to_x - origin_x; x += step) {
+    const px = across(origin_x + x);
     if (px < NAMES) continue;
     pen.fillStyle = colours.line;
     pen.fillRect(px, RULER - 5, 1, 5);
@@ -559,7 +564,7 @@ function fault_pixels(w, x_of) {
 // Moving.
 function keep_in() {
   const all = last - first;
-  view.span = Math.min(Math.max(view.span, by_order ? 2 : 4), all * 1.2 + 4);
+  view.span = Math.min(Math.max(view.span, by_order ? 2 : 1), all * 1.2 + 4);
   view.from = Math.min(Math.max(view.from, Math.min(first - all * 0.1, first - view.span * 0.5)), last + all * 0.1 - view.span * 0.5);
   view.top = Math.max(0, Math.min(view.top, height + GAP - (high - RULER)));
 }
@@ -574,7 +579,7 @@ function zoom(by, px) {
 function scroll(x, y) { view.from += x / (wide - NAMES) * view.span; view.top += y; keep_in(); due(); }
 function fit() { view.span = (last - first) * 1.04; view.from = first - (last - first) * 0.02; view.top = 0; keep_in(); due(); }
 
-// Brings calls into view, with room at both sides. A call at the stamp 0 widens nothing.
+// Brings calls into view, with room at both sides. Those of what was there before widen nothing.
 function show(calls) {
   let from = Infinity, to = -Infinity, top = Infinity, bottom = -Infinity;
   for (const n of calls) {
@@ -582,7 +587,7 @@ function show(calls) {
     const y = y_of(n);
     top = Math.min(top, y);
     bottom = Math.max(bottom, y + LANE);
-    if (start[n] === zero && right[n] <= left[n] && calls.length > 1) continue;
+    if (is_before(n)) continue;
     from = Math.min(from, left[n]);
     to = Math.max(to, right[n] < Infinity ? right[n] : left[n], left[n]);
   }
@@ -630,11 +635,18 @@ function choose_fault(number) {
   at("only").hidden = false;
   table(fault);
   while (shown_faults < listed.length && shown_faults <= listed.indexOf(number)) more_faults();
-  for (const button of at("list").querySelectorAll("button")) button.setAttribute("aria-current", String(Number(button.dataset.number) === number));
-  const button = at("list").querySelector(`button[data-number="${number}"]`);
-  if (button) button.scrollIntoView({ block: "nearest" });
+  set_current(null);
+  set_current(at("list").querySelector(`button[data-number="${number}"]`));
   show(fault.calls);
 }
+// Marks the button of the chosen fault; with none, no button.
+function set_current(button) {
+  const before = at("list").querySelector("[aria-current=true]");
+  if (!button) { if (before) before.setAttribute("aria-current", "false"); return; }
+  button.setAttribute("aria-current", "true");
+  button.scrollIntoView({ block: "nearest" });
+}
+
 // A table of the fault's calls, by their starts. Its times are counted from the first call, as those of the ruler.
 function table(fault) {
   const made = document.createElement("table"), head = made.createTHead().insertRow(), body = made.createTBody();
@@ -759,7 +771,8 @@ function press(event) {
     PageUp: () => scroll(0, RULER - high), PageDown: () => scroll(0, high - RULER), Home: fit, 0: fit, "+": () => zoom(0.67, middle()), "=": () => zoom(0.67, middle()), "-": () => zoom(1.5, middle()),
     n: () => step(1), p: () => step(-1), o: () => at("order").click(), Escape: clear,
   };
-  const move = moves[event.key];
+  const move = moves[event.key], is_scroll = event.key.length > 4 && event.key !== "Escape";
+  if (is_scroll && event.target !== canvas && event.target !== document.body) return;
   if (!move || event.ctrlKey || event.metaKey || event.altKey) return;
   event.preventDefault();
   move();
@@ -771,7 +784,7 @@ function clear() {
   at("what").textContent = "No call is chosen";
   at("sentence").textContent = at("one").textContent = at("rows").textContent = "";
   at("only").hidden = true;
-  for (const button of at("list").querySelectorAll("button")) button.setAttribute("aria-current", "false");
+  set_current(null);
   due();
 }
 document.addEventListener("keydown", event => { if (!(event.target instanceof HTMLInputElement)) press(event); });
