@@ -185,6 +185,8 @@ function is_before(n) { return total > 1 && start[n] === zero && end[n] <= zero;
   for (let n = 0; n < total; n++) {
     start[n] = (high[2 * n] - base_high) * 1e10 + (low[2 * n] - base_low);
     end[n] = (high[2 * n + 1] - base_high) * 1e10 + (low[2 * n + 1] - base_low);
+    // one that ends before it starts is drawn from its end to its start
+    if (end[n] < start[n]) [start[n], end[n]] = [end[n], start[n]];
     if (start[n] < earliest && !is_before(n)) earliest = start[n];
   }
 })();
@@ -289,9 +291,9 @@ function lanes_of(calls) {
     while (lane < lanes.length && ends[lane] > start[n]) lane++;
     if (lane === MOST_LANES) lane--;
     else if (lane === lanes.length) { lanes.push({ calls: [], reach: [] }); ends.push(-Infinity); }
-    ends[lane] = Math.max(ends[lane], end[n], start[n]);
+    ends[lane] = Math.max(ends[lane], end[n]);
     lanes[lane].calls.push(n);
-    lanes[lane].reach.push(Math.max(lanes[lane].reach.at(-1) ?? -Infinity, right[n], left[n]));
+    lanes[lane].reach.push(Math.max(lanes[lane].reach.at(-1) ?? -Infinity, right[n]));
     lane_of[n] = lane;
   }
   return lanes;
@@ -334,7 +336,7 @@ function spans() {
   for (const row of rows) for (const lane of row.lanes) for (const n of lane.calls) {
     if (is_before(n)) continue;
     if (left[n] < first) first = left[n];
-    const to = right[n] < Infinity ? Math.max(right[n], left[n]) : left[n];
+    const to = right[n] < Infinity ? right[n] : left[n];
     if (to > last) last = to;
   }
   if (first > last) { first = 0; last = 1; }
@@ -466,7 +468,7 @@ function draw_marked() {
   const used = [];
   for (const label of labels.slice(0, 60)) {
     const call = told(label.n);
-    const words = `${label.is_before ? "\u25c2 " : ""}${call.act} ${cut(call.value, 24)} (line ${call.line})`;
+    const words = [label.is_before ? "\u25c2" : "", call.act, cut(call.value, 24), `(line ${call.line})`].filter(word => word).join(" ");
     const size = pen.measureText(words).width + 8;
     let x = label.to + 4;
     if (x + size > wide) x = Math.max(NAMES, label.from - size - 4);
@@ -589,7 +591,7 @@ function show(calls) {
     bottom = Math.max(bottom, y + LANE);
     if (is_before(n)) continue;
     from = Math.min(from, left[n]);
-    to = Math.max(to, right[n] < Infinity ? right[n] : left[n], left[n]);
+    to = Math.max(to, right[n] < Infinity ? right[n] : left[n]);
   }
   if (from > to) { due(); return; }
   const span = Math.max(to - from, by_order ? 4 : 20);
@@ -703,7 +705,7 @@ function step(by) {
 function call_at(px, py) {
   if (px < NAMES - 4 || py < RULER) return -1;
   const y = py - RULER + view.top, reach = 4 * view.span / (wide - NAMES), x = back_across(px);
-  const gap = n => Math.max(0, left[n] - x, x - Math.max(right[n], left[n]));
+  const gap = n => Math.max(0, left[n] - x, x - right[n]);
   for (const n of marked) if (is_shown[n]) { const top = y_of(n); if (y >= top && y < top + LANE && gap(n) <= reach) return n; }
   let low = 0, high = rows.length;
   while (low < high) { const middle = (low + high) >> 1; if (rows[middle].y + rows[middle].size <= y) low = middle + 1; else high = middle; }
