@@ -116,6 +116,8 @@ const lines_in = id => at(id).textContent.replaceAll("%3C", "\u003c");
 const text = lines_in("call-lines");
 const from = text.charCodeAt(0) === 10 ? 1 : 0;
 const KINDS = ["put", "hit", "miss", "remove"];
+// In the place of a caller, of puts that were not recorded. It is no word, so no caller has that name.
+const UNRECORDED = "was there";
 let total = 0;
 for (let i = from; (i = text.indexOf("\n", i)) >= 0; i++) total++;
 const place = new Float64Array(total), line_of = new Float64Array(total), added = new Uint8Array(total);
@@ -154,7 +156,7 @@ function is_before(n) { return total > 1 && start[n] === zero && end[n] <= zero;
     line_of[n] = digits(i, to);
     i = to + 1;
     to = text.indexOf(" ", i);
-    caller[n] = number_of(caller_numbers, callers, text.slice(i, to));
+    caller[n] = number_of(caller_numbers, callers, added[n] ? UNRECORDED : text.slice(i, to));
     i = to + 1;
     to = text.indexOf(" ", i);
     stamp(2 * n, i, to);
@@ -199,7 +201,7 @@ const many = (count, word) => count.toLocaleString("en") + " " + word + (count =
 // What a call's line has: its words, with the stamps as they are written.
 function told(call) {
   const words = line_text(call).split(" ");
-  return { line: words[0].replace("+", ""), caller: words[1], start: words[2], end: words[3], act: words[4], key: words[5], value: words[6] || "", time: words[7] || "" };
+  return { line: words[0].replace("+", ""), caller: added[call] ? UNRECORDED : words[1], start: words[2], end: words[3], act: words[4], key: words[5], value: words[6] || "", time: words[7] || "" };
 }
 
 // A stamp, counted from the first start, as on the ruler.
