@@ -22,10 +22,12 @@ caller_word (Some name) caller = word_of name
 caller_word None caller = decimal caller
 
 -- what the line of a call begins with: the line where it was recorded, its caller and its stamps
-abbrev pub front_text : List (List ℕ) → Bool → ℕ → Call → List ℕ
+unfoldable pub front_text : List (List ℕ) → Bool → ℕ → Call → List ℕ
 front_text names is_recorded line call =
-    line_word is_recorded line ++ codes " " ++ caller_word (slice_get names call.caller) call.caller ++ codes " " ++ decimal call.start ++ codes " "
-    ++ end_text call.end
+    line_word is_recorded line
+    ++ (codes " "
+    ++ (caller_word (slice_get names call.caller) call.caller
+    ++ (codes " " ++ (decimal call.start ++ (codes " " ++ end_text call.end)))))
 
 -- the line of a call, with its line feed: after the number it is as in the text of a history
 abbrev pub call_line : List (List ℕ) → Bool → ℕ → Call → List ℕ

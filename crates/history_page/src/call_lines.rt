@@ -48,6 +48,7 @@ fn caller_word(alloc: Global, names: &[Vec<u8>], caller: u16) -> Result<String, 
 }
 
 /// What the line of a call begins with: the line where it was recorded, its caller and its stamps.
+#[tactic(auto, unfolding(crate::specs::CallLines::front_text))]
 fn front_text(
     alloc: Global,
     names: &[Vec<u8>],
