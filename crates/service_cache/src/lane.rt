@@ -48,7 +48,7 @@ impl<D: PageDevice<PAGE>, const PAGE: usize, L: KeyLanes, J: BookName> Model
 impl<D: PageDevice<PAGE>, const PAGE: usize, L: KeyLanes, J: BookName> SeatedLane<D, PAGE, L, J> {
     ghost use Rattle.service_cache.specs.Seated.{IsAsSaid, IsSeated, drawn};
 
-    /// A lane that was just opened, with a register that has seen nothing, and the generator of its words of admission.
+    /// A lane that was just opened, with a register that has seen nothing, and the generator of its words of admission: `words_of` gives one.
     pub fn new(lane: ServiceLane<D, PAGE>, register: Register<L, J>, words: Lcg64Xsh32) -> Self
         requires opened { lane.deeds ≡ [] }
         requires honest { IsAsSaid L.is_honest D.honest register lane }

@@ -16,8 +16,8 @@ use denote.Param.{param, number}
 use Rattle.service_cache.proofs.Fitting.{lane_fits}
 use Rattle.service_cache.proofs.lane.SeatedLane.get.Goals as goal
 
-pub invariant_of-self-in_default : goal.invariant_of-self-in_default
-invariant_of-self-in_default g c = (
+pub invariant_of-self : goal.invariant_of-self
+invariant_of-self g c = (
   subst (λ (r : Registered). IsSeated g.L.KeyLanes.lane_of r c.self.inside.lane.deeds) (sym c.in_default.ensures.refused.0) c.self.invariant.0,
   said_kept g.L.KeyLanes.is_honest g.D.PageDevice.honest c.self.inside.register c.self.inside.lane c.look.new.self c.self.inside.lane
       (ap (λ (r : Registered). r.number) c.in_default.ensures.refused.0)
@@ -37,8 +37,8 @@ invariant_of-self-in-Err g c =
           c.self.invariant.1,
     )
 
-pub invariant_of-self-in-Ok : goal.invariant_of-self-in-Ok
-invariant_of-self-in-Ok g c =
+pub invariant_of-self-2 : goal.invariant_of-self-2
+invariant_of-self-2 g c =
     let lane_of = g.L.KeyLanes.lane_of in
     let i = c.self.inside in
     let o = c.in-Ok-get in

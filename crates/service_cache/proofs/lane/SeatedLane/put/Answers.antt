@@ -20,8 +20,8 @@ use denote.Param.{param, number}
 use Rattle.service_cache.proofs.Fitting.{lane_fits}
 use Rattle.service_cache.proofs.lane.SeatedLane.put.Goals as goal
 
-pub invariant_of-self-in-Err : goal.invariant_of-self-in-Err
-invariant_of-self-in-Err g c =
+pub invariant_of-self : goal.invariant_of-self
+invariant_of-self g c =
     let lane_of = g.L.KeyLanes.lane_of in
     let i = c.self.inside in
     let why = c.in-Err.ensures in
@@ -42,16 +42,18 @@ invariant_of-self-in-Err-put_or_remove g c =
     let seat = c.enter_or_remove.new.seat in
     let enters : EntersIn lane_of i.register c.args.seat.now put register seat = subst (λ (w : Deed). EntersIn lane_of i.register c.args.seat.now w register seat) c.put-put.ensures c.in-Ok.ensures.entered in
     let removal : Deed = record { key = c.args.key; act = Remove } in
+    let between = c.enter_or_remove.new.lane in
+    let counted : Serving g.row.D.Denot = record between { counts = counts_refused_put c.in-Err-put_or_remove.fault between.counts } in
     let gone : c.put_or_remove.new.self.deeds ≡ i.lane.deeds ++ removal ∷ [] = c.in-Err-put_or_remove.ensures.removed.deeds ∙ ap (λ (s : Serving g.row.D.Denot). s.deeds ++ removal ∷ []) c.in-Ok.ensures.stays in (
       seated_removed lane_of i.register i.lane.deeds c.self.invariant.0 put c.put_or_remove.new.self.deeds c.args.seat.now seat register gone enters,
       said_kept g.L.KeyLanes.is_honest g.D.PageDevice.honest c.self.inside.register c.self.inside.lane register c.put_or_remove.new.self
           enters.number
-          (removes_keep g.row.PAGE g.D.PageDevice.honest g.D.PageDevice.failures g.D.PageDevice.held c.args.key _ c.put_or_remove.new.self c.in-Err-put_or_remove.ensures.removed ∙ ap (λ (s : Serving g.row.D.Denot). g.D.PageDevice.honest s.store.device) c.in-Ok.ensures.stays)
+          (removes_keep g.row.PAGE g.D.PageDevice.honest g.D.PageDevice.failures g.D.PageDevice.held c.args.key counted c.put_or_remove.new.self c.in-Err-put_or_remove.ensures.removed ∙ ap (λ (s : Serving g.row.D.Denot). g.D.PageDevice.honest s.store.device) c.in-Ok.ensures.stays)
           c.self.invariant.1,
     )
 
-pub invariant_of-self : goal.invariant_of-self
-invariant_of-self g c =
+pub invariant_of-self-2 : goal.invariant_of-self-2
+invariant_of-self-2 g c =
     let lane_of = g.L.KeyLanes.lane_of in
     let i = c.self.inside in
     let put : Deed = put_of c.args.key c.args.value c.args.expires in

@@ -17,8 +17,8 @@ use Rattle.service_cache.proofs.lane.SeatedLane.remove.Goals as goal
 pub enter-requires : goal.enter-requires
 enter-requires g c = ap (λ (w : Deed). g.L.KeyLanes.lane_of w.key) c.removal-removal.ensures ∙ (c.requires ∙ sym (ap (λ s. s.register.number) c.self.view_is))
 
-pub invariant_of-self-in-Err : goal.invariant_of-self-in-Err
-invariant_of-self-in-Err g c = (
+pub invariant_of-self : goal.invariant_of-self
+invariant_of-self g c = (
   subst (λ (ds : List Deed). IsSeated g.L.KeyLanes.lane_of c.self.inside.register ds) (sym (ap (λ s. s.deeds) c.in-Err.ensures.refused)) c.self.invariant.0,
   said_kept g.L.KeyLanes.is_honest g.D.PageDevice.honest c.self.inside.register c.self.inside.lane c.self.inside.register c.remove.new.self
       refl
@@ -38,8 +38,8 @@ invariant_of-self-in-Err-enter g c =
           c.self.invariant.1,
     )
 
-pub invariant_of-self : goal.invariant_of-self
-invariant_of-self g c =
+pub invariant_of-self-2 : goal.invariant_of-self-2
+invariant_of-self-2 g c =
     let lane_of = g.L.KeyLanes.lane_of in
     let i = c.self.inside in
     let removal : Deed = record { key = c.args.key.now; act = Remove } in
