@@ -10,6 +10,7 @@ use Rattle.clap.specs.declared.error.kind.ErrorKind.{ErrorKind}
 use Rattle.clap.specs.declared.error.kind.ErrorKind.TheVariants.{DisplayHelp, DisplayVersion}
 use Rattle.history_text.specs.declared.share.Share.{Share}
 use Rattle.history_text.specs.Readings.{share_by}
+use Rattle.judge_run.specs.declared.scope.Scope.{Scope}
 use Rattle.load.specs.Asked.{numbers_of, served_numbers_of}
 use Rattle.load.specs.Settings.{bytes_in, is_decimal, number_in, row_of, served_settings, settings, shape_settings, value_of_text}
 use Rattle.load.specs.Sizes.{name_of}
@@ -304,10 +305,18 @@ has_output rows = is_some (first_of (codes "trace") rows) || (is_some (first_of 
 abbrev pub can_follow : List Row → List Text → Bool
 can_follow rows files = nat_le (count_by is_input files) 1 && not (nat_lt 1 (length files) && has_output rows)
 
--- the judging that was found of the history in a file, and of those in others, of which an accepted one has to have so many calls, with stamps
--- that may differ by so much, of a share of keys, with a window if there is one
-abbrev pub judging_of : List Row → ℕ → ℕ → Share → Option ℕ → Text → List Text → Judging
-judging_of rows least skew share window file others = record {
+-- which calls are judged: with stamps that may differ by so much, of a share of keys, with a window if there is one
+abbrev pub scope_of : List Row → ℕ → Share → Option ℕ → Scope
+scope_of rows skew share window = record {
+  skew = skew;
+  warm = is_on (codes "warm") rows;
+  reading = record { share = share; skip_bad = is_on (codes "skip-bad") rows };
+  window = window;
+}
+
+-- the judging that was found of the history in a file, and of those in others, of which an accepted one has to have so many calls, in this scope
+abbrev pub judging_in : List Row → ℕ → Scope → Text → List Text → Judging
+judging_in rows least scope file others = record {
   file = file;
   others = others;
   explain = is_on (codes "explain") rows;
@@ -317,12 +326,16 @@ judging_of rows least skew share window file others = record {
   trace = first_of (codes "trace") rows;
   junit = first_of (codes "junit") rows;
   least = least;
-  skew = skew;
-  warm = is_on (codes "warm") rows;
-  share = share;
-  skip_bad = is_on (codes "skip-bad") rows;
-  window = window;
+  skew = scope.skew;
+  warm = scope.warm;
+  share = scope.reading.share;
+  skip_bad = scope.reading.skip_bad;
+  window = scope.window;
 }
+
+-- the same, with stamps that may differ by so much, of a share of keys, with a window if there is one
+abbrev pub judging_of : List Row → ℕ → ℕ → Share → Option ℕ → Text → List Text → Judging
+judging_of rows least skew share window file others = judging_in rows least (scope_of rows skew share window) file others
 
 -- what is asked of these files
 abbrev pub judge_wanted_on : List Row → ℕ → ℕ → Share → Option ℕ → List Text → Option Wanted

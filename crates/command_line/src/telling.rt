@@ -54,7 +54,7 @@ pub fn no_file(alloc: Global, subcommand: &str) -> LineFault
 }
 
 /// A subcommand that takes numbers.
-#[derive(Clone, Copy, PartialEq, Eq)]
+#[derive(Clone, Copy)]
 pub enum Loading {
     /// `judge`.
     Judge,
