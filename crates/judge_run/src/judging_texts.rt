@@ -1,5 +1,5 @@
 // Judging the history of a text, and telling its verdict.
-ghost use Rattle.std.specs.Prelude.{◌≡◌, ◌≢◌, IfOk, IfErr, length, string_bytes};
+ghost use Rattle.std.specs.Prelude.{◌≡◌, ◌≢◌, None, IfOk, IfErr, length, option_map, string_bytes};
 ghost use Rattle.certificate_finder.specs.Finding.{IfRejected, IsFound};
 ghost use Rattle.figures.specs.Figures.{ended};
 ghost use Rattle.history_picture.specs.Names.{names_of};
@@ -11,6 +11,7 @@ ghost use Rattle.judge_run.specs.FromStart.{start_lines};
 ghost use Rattle.judge_run.specs.Listing.{IsListed};
 ghost use Rattle.judge_run.specs.Streams.{was_accepted, was_decided};
 ghost use Rattle.judge_run.specs.TextTold.{IsHistoryTold, IsTextTold, IsTextUntold, ToldText, acceptance_of, bad_answer, told_accepted, told_decided};
+ghost use Rattle.judge_run.specs.Paged.{IsPagedIf, page_if};
 ghost use Rattle.judge_run.specs.Told.{IsBehind};
 
 use crate::acceptance::Acceptance;
@@ -27,6 +28,9 @@ use crate::judging_text::judge_text;
 use crate::named_answer::named_object;
 use crate::names::copy_names;
 use crate::outcome::Outcome;
+use crate::paged_outcome::PagedOutcome;
+use crate::paged_report::PagedReport;
+use crate::paging::page_if;
 use crate::rejection::Rejection;
 use crate::scope::Scope;
 use crate::tell_fault::TellFault;
@@ -59,13 +63,50 @@ pub fn answer_judge<S: BuildHasher + Copy + Drop, R: Read, W: Write>(
     ensures err { IfErr result (λ fault. IsTextUntold form scope (R.remaining reader.old) detail (named file.entry)
         (W.contents writer.old) (W.contents writer.new) fault) }
 {
+    match answer_with_page(
+        alloc,
+        hash_builder,
+        form,
+        scope,
+        detail,
+        file,
+        reader,
+        writer,
+    ) {
+        Ok(answer) => Ok(answer.outcome),
+        Err(fault) => Err(fault),
+    }
+}
+
+/// The same, with the page of the history, if it is wanted and the text has no bad line.
+pub fn answer_with_page<S: BuildHasher + Copy + Drop, R: Read, W: Write>(
+    alloc: Global,
+    hash_builder: S,
+    form: Form,
+    scope: Scope,
+    detail: Detail,
+    file: Option<&str>,
+    reader: &mut R,
+    writer: &mut W,
+) -> Result<PagedOutcome, TellFault>
+    ensures ok { IfOk result (λ answer. ToldText form scope (R.remaining reader.old) detail (named file.entry) answer.outcome
+        (W.contents writer.old) (W.contents writer.new)) }
+    ensures page { IfOk result (λ answer. IsPagedIf scope (R.remaining reader.old) detail.page
+        answer.outcome (option_map (λ bytes. bytes.items) answer.page)) }
+    ensures err { IfErr result (λ fault. IsTextUntold form scope (R.remaining reader.old) detail (named file.entry)
+        (W.contents writer.old) (W.contents writer.new) fault) }
+{
     let told = match told_text(alloc, hash_builder, form, scope, detail, reader) {
         Ok(told) => told,
         Err(fault) => return Err(fault),
     };
+    let answer = PagedOutcome {
+        outcome: told.outcome,
+        page: told.page,
+    };
     let Some(name) = file else {
         return match write_whole(writer, told.text.as_bytes()) {
-            Ok(()) => Ok(told.outcome),
+            Ok(()) => Ok(answer),
             Err(Unwritten) => Err(TellFault::WriteFault),
         };
     };
@@ -73,12 +114,12 @@ pub fn answer_judge<S: BuildHasher + Copy + Drop, R: Read, W: Write>(
         return Err(TellFault::OutOfMemory);
     };
     match write_whole(writer, &bytes) {
-        Ok(()) => Ok(told.outcome),
+        Ok(()) => Ok(answer),
         Err(Unwritten) => Err(TellFault::WriteFault),
     }
 }
 
-/// The report on a text.
+/// The report on a text, and its page, if it is wanted.
 fn told_text<S: BuildHasher + Copy + Drop, R: Read>(
     alloc: Global,
     hash_builder: S,
@@ -86,22 +127,68 @@ fn told_text<S: BuildHasher + Copy + Drop, R: Read>(
     scope: Scope,
     detail: Detail,
     reader: &mut R,
-) -> Result<JudgeReport, TellFault>
+) -> Result<PagedReport, TellFault>
     ensures ok { IfOk result (λ told.
         IsTextTold form scope (R.remaining reader.old) detail told.outcome (string_bytes told.text)) }
+    ensures page { IfOk result (λ told. IsPagedIf scope (R.remaining reader.old) detail.page
+        told.outcome (option_map (λ bytes. bytes.items) told.page)) }
     ensures err { IfErr result (λ fault. fault ≢ TellFault.WriteFault) }
 {
     match judge_text(alloc, hash_builder, scope, reader) {
-        Ok(judged) => match told_judged(alloc, form, judged, detail) {
+        Ok(judged) => match told_with_page(alloc, form, judged, detail) {
             Ok(told) => Ok(told),
             Err(AllocError) => Err(TellFault::OutOfMemory),
         },
         Err(ReadTextFault::Bad(bad)) => match told_bad_line(alloc, form, bad) {
-            Ok(told) => Ok(told),
+            Ok(told) => Ok(unpaged(told)),
             Err(AllocError) => Err(TellFault::OutOfMemory),
         },
         Err(ReadTextFault::ReadFault) => Err(TellFault::ReadFault),
         Err(ReadTextFault::OutOfMemory) => Err(TellFault::OutOfMemory),
+    }
+}
+
+/// A report without a page.
+fn unpaged(told: JudgeReport) -> PagedReport
+    ensures text { string_bytes result.text ≡ string_bytes told.text }
+    ensures outcome { result.outcome ≡ told.outcome }
+    ensures page { result.page ≡ None }
+{
+    PagedReport {
+        text: told.text,
+        outcome: told.outcome,
+        page: None,
+    }
+}
+
+/// The report on a text that was judged, and its page, if it is wanted.
+fn told_with_page<S: BuildHasher + Drop>(
+    alloc: Global,
+    form: Form,
+    judged: JudgedText<S>,
+    detail: Detail,
+) -> Result<PagedReport, AllocError>
+    requires found { IsFound judged.text.history judged.found }
+    requires faults { IfRejected judged.found (λ _. IsListed judged.text.history judged.faults) }
+    ensures told { IfOk result (λ told. IsHistoryTold form
+        (text_by judged.text.history judged.text.lines.items judged.text.callers)
+        judged.extent detail told.outcome (string_bytes told.text)) }
+    ensures accepted { IfOk result (λ told. told_accepted told.outcome ≡ was_accepted judged.found) }
+    ensures decided { IfOk result (λ told. told_decided told.outcome ≡ was_decided judged.found) }
+    ensures page { IfOk result (λ told. option_map (λ bytes. bytes.items) told.page ≡ page_if detail.page
+        (text_by judged.text.history judged.text.lines.items judged.text.callers)
+        judged.extent judged.found judged.faults.faults.items) }
+{
+    let Ok(page) = page_if(alloc, detail.page, &judged) else {
+        return Err(AllocError);
+    };
+    match told_judged(alloc, form, judged, detail) {
+        Ok(told) => Ok(PagedReport {
+            text: told.text,
+            outcome: told.outcome,
+            page,
+        }),
+        Err(refused) => Err(refused),
     }
 }
 

@@ -76,12 +76,14 @@ fn check_asked(request: &CheckRequest) -> Asked {
 const NOTHING_MORE: Detail = Detail {
     explain: false,
     all: false,
+    page: false,
 };
 
 /// All that can be said of a history that is rejected.
 static ALL: Detail = Detail {
     explain: true,
     all: true,
+    page: true,
 };
 
 /// What judging asks for.

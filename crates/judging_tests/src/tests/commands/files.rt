@@ -211,6 +211,7 @@ pub(super) fn judge_of(
         picture,
         trace,
         junit,
+        html: None,
         at_least: asked.at_least,
         scope: asked.scope,
     };

@@ -51,6 +51,7 @@ fn fault_of_text<R: Read, W: Write>(
     let everything = Detail {
         explain: true,
         all: true,
+        page: false,
     };
     judged(
         alloc,
