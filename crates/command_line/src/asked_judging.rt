@@ -104,14 +104,17 @@ fn judge_request<'a>(
     let picture = file_found(alloc, found, "picture")?;
     let trace = file_found(alloc, found, "trace")?;
     let junit = file_found(alloc, found, "junit")?;
+    let html = file_found(alloc, found, "html")?;
+    let page = html.is_some();
     Ok(JudgeRequest {
         file,
         others,
-        detail: Detail { explain, all },
+        detail: Detail { explain, all, page },
         json,
         picture,
         trace,
         junit,
+        html,
         at_least,
         scope,
     })
@@ -153,5 +156,6 @@ fn inputs_among(files: &[&str]) -> usize
 fn has_output<'a>(found: &ArgMatches<'a>) -> bool
     ensures { result ≡ has_output (rows_of (found_of found.now)) }
 {
-    is_given(found, "trace") || (is_given(found, "picture") || is_given(found, "junit"))
+    is_given(found, "trace")
+        || (is_given(found, "picture") || (is_given(found, "junit") || is_given(found, "html")))
 }

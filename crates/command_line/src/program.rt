@@ -118,13 +118,14 @@ fn with_reading<'a>(alloc: Global, command: Command<'a>) -> Result<Command<'a>, 
     skipping.arg(valued(alloc, "window", "NUMBER", help::WINDOW))
 }
 
-/// A command that lists all faults if that is wanted, and writes a trace and a JUnit file.
+/// A command that lists all faults if that is wanted, and writes a trace, a JUnit file and a page.
 fn with_listing<'a>(alloc: Global, command: Command<'a>) -> Result<Command<'a>, AllocError>
     ensures { IfOk result (λ c. app_of c ≡ with_listing (app_of command.entry)) }
 {
     let listed = command.arg(flag(alloc, "all", help::ALL))?;
     let traced = listed.arg(valued(alloc, "trace", "OUT", help::TRACE))?;
-    traced.arg(valued(alloc, "junit", "OUT", help::JUNIT))
+    let tested = traced.arg(valued(alloc, "junit", "OUT", help::JUNIT))?;
+    tested.arg(valued(alloc, "html", "OUT", help::HTML))
 }
 
 /// A command that judges a history.

@@ -129,7 +129,7 @@ pub fn not_with_files(alloc: Global) -> LineFault
 {
     conflict(
         alloc,
-        "--trace, --picture and --junit write one file, so they take one FILE: judge each by a command of its own",
+        "--trace, --picture, --junit and --html write one file, so they take one FILE: judge each by a command of its own",
     )
 }
 

@@ -90,10 +90,12 @@ static ALL: Detail = Detail {
 fn judge_asked(request: &JudgeRequest) -> Asked {
     let has_all = is_named(&request.picture, "a.svg")
         && is_named(&request.trace, "b.trace")
-        && is_named(&request.junit, "c.xml");
+        && is_named(&request.junit, "c.xml")
+        && is_named(&request.html, "d.html");
     let has_none = is_named(&request.picture, "")
         && is_named(&request.trace, "")
-        && is_named(&request.junit, "");
+        && is_named(&request.junit, "")
+        && is_named(&request.html, "");
     if request.at_least != 0 || request.scope.skew != 0 {
         return limited_asked(request, has_none);
     }
@@ -250,11 +252,12 @@ static FOLLOWS: [Follows; 2] = [
 ];
 
 /// Words with several files that are refused.
-static UNFOLLOWED: [&[&str]; 5] = [
+static UNFOLLOWED: [&[&str]; 6] = [
     &["kangaroo", "judge", "-", "-"],
     &["kangaroo", "judge", "--trace=t", "a", "b"],
     &["kangaroo", "judge", "--picture=p", "a", "b"],
     &["kangaroo", "judge", "--junit=j", "a", "b"],
+    &["kangaroo", "judge", "--html=h", "a", "b"],
     &["kangaroo", "check", "a.trace", "b.trace"],
 ];
 
@@ -306,7 +309,7 @@ static CHECK_EXPLAINED: [&str; 6] = [
 ];
 
 /// The words of `judge` with all its options.
-static JUDGE_ALL: [&str; 9] = [
+static JUDGE_ALL: [&str; 10] = [
     "kangaroo",
     "judge",
     "--trace",
@@ -315,6 +318,7 @@ static JUDGE_ALL: [&str; 9] = [
     "--explain",
     "--all",
     "--junit=c.xml",
+    "--html=d.html",
     "a.txt",
 ];
 
