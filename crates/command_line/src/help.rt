@@ -71,8 +71,7 @@ pub const TRACE: &str = "Write an accepted history to this file, as a trace that
 pub const JUNIT: &str = "Write what came of it to this file, as a JUnit test that CI systems show";
 
 /// The file that a page of the calls and the faults is written to.
-pub const HTML: &str =
-    "Write all calls and faults to this file, as a page that a browser draws";
+pub const HTML: &str = "Write all calls and faults to this file, as a page that a browser draws";
 
 /// How many calls an accepted history has to have.
 pub const AT_LEAST: &str =

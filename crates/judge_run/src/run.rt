@@ -211,7 +211,15 @@ fn judged<R: AllocGlobal + Files, E: Write>(
         page: page_in(answer),
     };
     let least = request.at_least as usize;
-    settle(rt, file, &request.scope, &answer.outcome, &files, least, err)
+    settle(
+        rt,
+        file,
+        &request.scope,
+        &answer.outcome,
+        &files,
+        least,
+        err,
+    )
 }
 
 /// The page of an answer, if it has one.

@@ -79,7 +79,10 @@ pub(crate) fn front_of<S: BuildHasher>(
 }
 
 /// The lines that tell what was found, and how what was judged differs from what the text spells.
-pub(crate) fn lines_of<S: BuildHasher>(alloc: Global, judged: &JudgedText<S>) -> Result<String, AllocError>
+pub(crate) fn lines_of<S: BuildHasher>(
+    alloc: Global,
+    judged: &JudgedText<S>,
+) -> Result<String, AllocError>
     ensures { IfOk result (λ text. string_bytes text
         ≡ verdict_text judged.now.text.history judged.now.text.lines.items judged.now.extent
         judged.now.found ++ extent_text judged.now.extent) }
