@@ -52,16 +52,18 @@ fn push_faults(
 fn page_report<S: BuildHasher>(
     alloc: Global,
     judged: &JudgedText<S>,
-    scene: &Scene<'_>,
 ) -> Result<String, AllocError>
-    requires history { scene.now.history.now ≡ judged.now.text.history }
-    requires lines { scene.now.lines.now ≡ judged.now.text.lines.items }
     ensures { IfOk result (λ text. string_bytes text ≡ page_report judged.now.text.history
         judged.now.text.lines.items judged.now.extent judged.now.found judged.now.faults.faults.items) }
 {
     let mut text = lines_of(alloc, judged)?;
+    let scene = Scene {
+        history: &judged.text.history,
+        lines: &judged.text.lines,
+        callers: &[],
+    };
     let recorded = own_in(judged);
-    match push_faults(alloc, &mut text, scene, recorded, &judged.faults.faults) {
+    match push_faults(alloc, &mut text, &scene, recorded, &judged.faults.faults) {
         Ok(()) => Ok(text),
         Err(refused) => Err(refused),
     }
@@ -78,7 +80,7 @@ fn page_of<S: BuildHasher>(alloc: Global, judged: &JudgedText<S>) -> Result<Vec<
         lines: &judged.text.lines,
         callers: judged.text.callers.names(),
     };
-    let report = page_report(alloc, judged, &scene)?;
+    let report = page_report(alloc, judged)?;
     let recorded = own_in(judged);
     match page(alloc, &scene, recorded, report.as_str()) {
         Ok(page) => Ok(page),

@@ -5,7 +5,7 @@ use Rattle.std.specs.Prelude.{ℕ}
 use Rattle.trace_file.specs.Sending.{Begun}
 use Rattle.history_text.specs.Writing.{named}
 use Rattle.judge_run.specs.Answers.{named_object, with_file}
-use Rattle.judge_run.proofs.judging_texts.answer_judge.Goals as goal
+use Rattle.judge_run.proofs.judging_texts.answer_with_page.Goals as goal
 
 pub returns-in-Err-write_whole-2-clause-err : goal.returns-in-Err-write_whole-2-clause-err
 returns-in-Err-write_whole-2-clause-err g c =
