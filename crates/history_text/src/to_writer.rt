@@ -95,7 +95,12 @@ fn bare_text(alloc: Global, front: &str, kind: &str, key: &str) -> Result<String
 }
 
 /// The line of what a call did, with its line feed, after what it begins with and the word of its key.
-pub fn act_text(alloc: Global, front: &str, key: &str, act: &ActRef<'_>) -> Result<String, AllocError>
+pub fn act_text(
+    alloc: Global,
+    front: &str,
+    key: &str,
+    act: &ActRef<'_>,
+) -> Result<String, AllocError>
     ensures { IfOk result (λ text. string_bytes text ≡ act_text front.now key.now (act_shown act.now)) }
 {
     match act {

@@ -49,10 +49,7 @@ fn push_faults(
 }
 
 /// What a page tells of a text that was judged: the lines of its verdict, then its faults.
-fn page_report<S: BuildHasher>(
-    alloc: Global,
-    judged: &JudgedText<S>,
-) -> Result<String, AllocError>
+fn page_report<S: BuildHasher>(alloc: Global, judged: &JudgedText<S>) -> Result<String, AllocError>
     ensures { IfOk result (λ text. string_bytes text ≡ page_report judged.now.text.history
         judged.now.text.lines.items judged.now.extent judged.now.found judged.now.faults.faults.items) }
 {
