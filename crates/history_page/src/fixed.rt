@@ -50,7 +50,8 @@ section { overflow: auto; padding: 10px 12px; }
 #one { font: 12px/1.45 ui-monospace, monospace; white-space: pre-wrap; margin: 0 0 4px; }
 #rows { overflow-x: auto; }
 table { border-collapse: collapse; font: 12px/1.4 ui-monospace, monospace; margin-top: 6px; }
-th, td { text-align: left; padding: 1px 7px 1px 0; white-space: nowrap; }
+th, td { text-align: left; vertical-align: top; padding: 1px 9px 1px 0; white-space: nowrap; }
+td.call { white-space: normal; overflow-wrap: anywhere; min-width: 12em; }
 th.number, td.number { text-align: right; }
 #tip { position: fixed; z-index: 2; display: none; pointer-events: none; max-width: 60ch; background: var(--panel); border: 1px solid var(--line); border-radius: 4px; padding: 3px 7px; font: 12px/1.4 ui-monospace, monospace; white-space: pre-wrap; overflow-wrap: anywhere; }
 noscript { display: block; padding: 12px; }
@@ -234,9 +235,9 @@ const faults = [], verdict = [];
 // What is shown: the calls of the keys that are chosen, in lanes. A caller's row has as many lanes as it has calls at once. Beside
 // each call of a lane stands how far it and those before it reach, so that what is in view is found by halving.
 const canvas = at("calls"), pen = canvas.getContext("2d"), whole = at("all"), whole_pen = whole.getContext("2d");
-const LANE = 16, GAP = 6, RULER = 22, NAMES = 120, LEAST = 3, MOST_LANES = 60;
+const LOW = 16, TALL = 24, GAP = 6, RULER = 22, NAMES = 120, LEAST = 3, MOST_LANES = 60;
 let left = new Float64Array(total), right = new Float64Array(total), stamps = null;
-let rows = [], height = 0, shown_count = 0, first = 0, last = 1, is_shown = null;
+let LANE = LOW, rows = [], height = 0, shown_count = 0, first = 0, last = 1, is_shown = null;
 let view = { from: 0, span: 1, top: 0 }, by_order = false;
 let marked = new Set(), chosen = -1, chosen_fault = -1;
 let lane_of = new Int32Array(total), row_at = new Map();
@@ -273,10 +274,13 @@ function lay_out() {
   row_at = new Map();
   for (const [number, calls] of of_caller) {
     const row = { number, y: 0, size: 0, lanes: lanes_of(calls) };
-    row.size = row.lanes.length * LANE + GAP;
     rows.push(row);
     row_at.set(number, row);
   }
+  // lanes are taller if all have room then
+  const lanes = rows.reduce((sum, row) => sum + row.lanes.length, 0);
+  LANE = lanes * TALL + rows.length * GAP + GAP < canvas.clientHeight - RULER ? TALL : LOW;
+  for (const row of rows) row.size = row.lanes.length * LANE + GAP;
   stack();
   spans();
   at("count").textContent = shown_count === total
@@ -657,14 +661,14 @@ function table(fault) {
   const fill = (row, words, name) => words.forEach((word, i) => {
     const cell = document.createElement(name);
     cell.textContent = word;
-    if (i === 0 || i > 3) cell.className = "number";
+    cell.className = i === 1 ? "call" : "number";
     if (name === "th") cell.scope = "col";
     row.append(cell);
   });
-  fill(head, ["line", "caller", "call", "value", "start", "end"], "th");
+  fill(head, ["line", "call", "start", "end"], "th");
   for (const n of [...fault.calls].sort((a, b) => start[a] - start[b])) {
     const call = told(n);
-    fill(body.insertRow(), [added[n] ? "+" + call.line : call.line, call.caller, call.act, cut(call.value, 24), since(call.start), since(call.end)], "td");
+    fill(body.insertRow(), [added[n] ? "+" + call.line : call.line, `${call.caller}: ${call.act} ${cut(call.value, 24)}`, since(call.start), since(call.end)], "td");
   }
   at("rows").replaceChildren(made);
 }
