@@ -15,7 +15,6 @@ use Rattle.judge_run.specs.declared.outcome.Outcome.TheVariants.{Accepted, Rejec
 use Rattle.judge_run.specs.declared.fault_list.FaultList.{FaultList}
 use Rattle.judge_run.specs.declared.rejection.Rejection.{Rejection}
 use Rattle.judge_run.specs.declared.scope.Scope.{Scope}
-use Rattle.judge_run.specs.CallObjects.{with_calls}
 use Rattle.judge_run.specs.Extents.{own_of}
 use Rattle.judge_run.specs.FaultsTold.{listed, more_text}
 use Rattle.judge_run.specs.FromStart.{start_lines}

@@ -1,5 +1,5 @@
 -- A piece is read, and its calls stand after the hits that waited.
-use Rattle.std.proofs.Common.{◌≡◌, ◌<◌, [], List, ℕ, ap, ap₂, Option, IsSomeAnd, arith, length, map, slice_get, refl, subst, sym}
+use Rattle.std.proofs.Common.{◌≡◌, ◌<◌, [], List, ℕ, ap, ap₂, Option, IsSomeAnd, arith, length, slice_get, refl, subst, sym}
 use Rattle.std.proofs.lemmas.Option.{slice_get_read, slice_get_within}
 use Rattle.trace_file.specs.declared.call.Call.{Call}
 use Rattle.certificate_checker.proofs.public_laws.Lookups.{some_and}

@@ -1,5 +1,5 @@
 -- The lines of the hits stand after those of the calls.
-use Rattle.std.proofs.Common.{◌≡◌, ◌∙◌, ◌++◌, ℕ, List, Some, ap, arith, length, refl, subst}
+use Rattle.std.proofs.Common.{◌≡◌, ◌∙◌, ◌++◌, List, Some, ap, arith, length, refl, subst}
 use Rattle.trace_file.specs.declared.call.Call.{Call}
 use Rattle.certificate_finder.specs.Warming.{IsWarmed}
 use Rattle.judge_run.specs.Telling.{lines_at}
