@@ -54,4 +54,10 @@ _kangaroo() {
         folders) compopt -o filenames 2>/dev/null; mapfile -t COMPREPLY < <(compgen -d -- "$word") ;;
     esac
 }
+# kangaroo-judge of a release is kangaroo judge
+_kangaroo_judge() {
+    local COMP_WORDS=(kangaroo judge "${COMP_WORDS[@]:1}") COMP_CWORD=$((COMP_CWORD + 1))
+    _kangaroo
+}
 complete -F _kangaroo kangaroo ./kangaroo
+complete -F _kangaroo_judge kangaroo-judge
