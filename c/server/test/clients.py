@@ -73,9 +73,9 @@ def memory_of_clients():
             wait_for(lambda: sum(state == "conn_mwrite" for state in asks.stats(b"conns").values()) == len(some), "answers wait")
             for client in some:
                 equal(client.take(gets * len(one)), one * gets, "the answers")
-                client.send(b"set w 0 0 2000\r\n" + value)
+                client.send(b"set w 0 0 2000\r\n" + value + value[:500])
             for client in some:
-                client.ask(value + b"\r\n", b"STORED\r\n", "a request that came in two pieces")
+                client.ask(value[500:] + b"\r\n", b"STORED\r\n", "a request that came in two pieces")
         grew_little(it, before, 2 * count)
 
 

@@ -91,8 +91,9 @@ def halves_of_one_who_left():
 
 
 def answers_before_quit(client, items):
-    """A client quits behind many gets, sends on, and reads only later: it gets all of its answers, and then the end."""
-    client.send(b"".join(b"get %s\r\n" % key for key in items) + b"quit\r\n" + b"x" * 3000)
+    """A client quits behind many gets, sends on, more than a server reads at once, and reads only later: it gets all of its answers, and
+    then the end."""
+    client.send(b"".join(b"get %s\r\n" % key for key in items) + b"quit\r\n" + b"x" * 20_000)
     time.sleep(0.2)
     equal(client.take(1 << 20), answer_to_gets(items), "the answers to a client that quits")
 
@@ -212,12 +213,20 @@ def no_descriptor():
         it.remove()
 
 
+def wait_for_the_end_of_a_second(client):
+    """Waits until a second of the server's clock is nearly over."""
+    began = client.stats()["time"]
+    wait_for(lambda: client.stats()["time"] != began, "the server's clock goes on")
+    time.sleep(0.8)
+
+
 @shows("of 40 silent clients each is closed once its time is over, and none that asks")
 def many_idle():
     with server("-o", "idle_timeout=1", "-t", "2") as it:
         busy = it.client()
-        silent = [it.client() for _ in range(40)]
+        wait_for_the_end_of_a_second(busy)  # so the next one begins long before their time is over
         began = time.monotonic()
+        silent = [it.client() for _ in range(40)]
         while int(busy.stats()["curr_connections"]) > 1 and time.monotonic() < began + 20:
             time.sleep(0.05)
         took = time.monotonic() - began
