@@ -171,18 +171,9 @@ def counts_of_all():
         equal(int(clients[0].stats()["cmd_get"]), 1, "a get after a reset")
 
 
-def leads_nowhere(descriptor):
-    """Whether a descriptor leads nowhere. One that was closed since it was listed does not."""
-    try:
-        return os.readlink(descriptor) == "/dev/null"
-    except FileNotFoundError:
-        return False
-
-
 def spares(it):
     """How many descriptors of a server lead nowhere: of these one is kept for clients for whom there is none."""
-    folder = f"/proc/{it.process.pid}/fd"
-    return sum(leads_nowhere(f"{folder}/{name}") for name in os.listdir(folder))
+    return it.descriptors().count("/dev/null")
 
 
 @shows("through 200 clients that come and go -c are served, and no more")

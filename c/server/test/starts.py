@@ -47,10 +47,8 @@ def answers_before_the_end():
 
 def files_of_cache(it):
     """The files of its cache that a server has open or mapped."""
-    folder = f"/proc/{it.process.pid}"
-    opened = [os.readlink(f"{folder}/fd/{name}") for name in os.listdir(f"{folder}/fd")]
-    mapped = pathlib.Path(f"{folder}/maps").read_text(encoding="ascii").split()
-    return {name for name in [*opened, *mapped] if name.startswith(f"{it.folder}/kangaroo")}
+    mapped = pathlib.Path(f"/proc/{it.process.pid}/maps").read_text(encoding="ascii").split()
+    return {name for name in [*it.descriptors(), *mapped] if name.startswith(f"{it.folder}/kangaroo")}
 
 
 @shows("a server that ends has its cache until its last client is answered, and that one gets the front of its answers")
