@@ -1,5 +1,4 @@
 """What is of one client and does not cross to another, and what crosses from clients to the threads that tend the cache."""
-import os
 import pathlib
 import signal
 import subprocess
