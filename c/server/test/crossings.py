@@ -216,7 +216,7 @@ def many_idle():
         busy = it.client()
         wait_for_the_end_of_a_second(busy)  # so the next one begins long before their time is over
         began = time.monotonic()
-        silent = [it.client() for _ in range(40)]
+        silent = it.greeted(40)
         while int(busy.stats()["curr_connections"]) > 1 and time.monotonic() < began + 20:
             time.sleep(0.05)
         took = time.monotonic() - began
