@@ -100,13 +100,12 @@ pub fn answer_with_page<S: BuildHasher + Copy + Drop, R: Read, W: Write>(
         Ok(told) => told,
         Err(fault) => return Err(fault),
     };
-    let answer = PagedOutcome {
-        outcome: told.outcome,
-        page: told.page,
-    };
     let Some(name) = file else {
         return match write_whole(writer, told.text.as_bytes()) {
-            Ok(()) => Ok(answer),
+            Ok(()) => Ok(PagedOutcome {
+                outcome: told.outcome,
+                page: told.page,
+            }),
             Err(Unwritten) => Err(TellFault::WriteFault),
         };
     };
@@ -114,7 +113,10 @@ pub fn answer_with_page<S: BuildHasher + Copy + Drop, R: Read, W: Write>(
         return Err(TellFault::OutOfMemory);
     };
     match write_whole(writer, &bytes) {
-        Ok(()) => Ok(answer),
+        Ok(()) => Ok(PagedOutcome {
+            outcome: told.outcome,
+            page: told.page,
+        }),
         Err(Unwritten) => Err(TellFault::WriteFault),
     }
 }
