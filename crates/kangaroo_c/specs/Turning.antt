@@ -14,6 +14,7 @@ use Rattle.c_lane.specs.declared.session_want.SessionWanted.{SessionWanted}
 use Rattle.c_lane.specs.Sessions.{SessionSteps}
 use Rattle.kangaroo_c.specs.declared.kept_lane.KeptLane.{KeptLane}
 use Rattle.kangaroo_c.specs.Telling.{page_laws}
+use Rattle.kangaroo_c.specs.Telling.{page_laws}
 
 -- a turn was begun for what a step wants, in a hold of the lane of a place
 abbrev pub BeginsTurn : SessionWanted → ℕ → Option KeptLane → Turn → Type 0
