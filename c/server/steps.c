@@ -81,7 +81,7 @@ static void step_without_lane(step *it) {
 }
 
 /* Ends the server if a lane refused a step. */
-static void test_stepped(uint32_t stepped) {
+static void end_if_refused(uint32_t stepped) {
     if (stepped == KS_OTHER_LANE) end_by_fault("a step was made on another lane than its key's");
     if (stepped == KS_WRONG_TURN) end_by_fault("a step was made by a turn that may not follow the last one of its lane");
 }
@@ -92,14 +92,15 @@ static void step_in_lane(step *it) {
     kangaroo_cache *cache = it->by->of->cache;
     guarded_lane *lane = &cache->lanes[it->wanted.place.lane];
     uint64_t now = moment_now();
+    uint32_t is_due;
     ks_turn turn;
     pthread_mutex_lock(&lane->lock);
     ks_begin_turn(&lane->lane, &it->wanted, now, &turn);
     make_whole(&it->by->of->numbers, &turn);
-    uint32_t stepped = ks_lane_step(&it->of->session, &lane->lane, &turn, it->bytes, it->length, place_of_answer(it),
-                                    KS_MOST_ANSWER, &it->done);
-    test_stepped(stepped);
-    if (stepped == KS_IS_DUE) hand_over(cache, it->wanted.place.lane);
+    is_due = ks_lane_step(&it->of->session, &lane->lane, &turn, it->bytes, it->length, place_of_answer(it), KS_MOST_ANSWER,
+                          &it->done);
+    end_if_refused(is_due);
+    if (is_due != 0) hand_over(cache, it->wanted.place.lane);
     pthread_mutex_unlock(&lane->lock);
 }
 

@@ -1,6 +1,5 @@
 -- A flush that is to come is seen from its moment on.
-use Rattle.std.proofs.Common.{◌≡◌, ◌≢◌, ◌<◌, ◌≤◌, ℕ, suc, Bool, true, false, List, [], ◌∷◌, Option, Some, None, refl, sym, ap, subst, ◌∙◌, arith, tt, ◌⊎◌, inl, inr}
-use Rattle.std.specs.Prelude.{Unit}
+use Rattle.std.proofs.Common.{◌≡◌, ◌≢◌, ◌<◌, ◌≤◌, ℕ, suc, Bool, true, false, List, [], ◌∷◌, Option, Some, None, refl, sym, ap, subst, ◌∙◌, arith, ◌⊎◌, inl, inr}
 use Rattle.std.proofs.lemmas.Bool.{false≢true}
 use Rattle.std.proofs.lemmas.Bool.Decides.{nat_tests}
 use Rattle.turn_register.specs.declared.place.Place.{Place}
@@ -16,21 +15,21 @@ use Rattle.turn_register.proofs.Growing.{top_grows, reads_top}
 
 -- a flush of at least this number is about to be made known
 abbrev MadeAt : Place → ℕ → ℕ → Type 0
-MadeAt places.Whole least top = Unit
-MadeAt places.Draw least top = Unit
-MadeAt places.SeePending least top = Unit
-MadeAt places.SeeFlushed least top = Unit
-MadeAt places.Lock least top = Unit
-MadeAt places.SeeLocked least top = Unit
-MadeAt places.Hide least top = Unit
-MadeAt places.DrawFlush least top = Unit
+MadeAt places.Whole least top = Unit {0}
+MadeAt places.Draw least top = Unit {0}
+MadeAt places.SeePending least top = Unit {0}
+MadeAt places.SeeFlushed least top = Unit {0}
+MadeAt places.Lock least top = Unit {0}
+MadeAt places.SeeLocked least top = Unit {0}
+MadeAt places.Hide least top = Unit {0}
+MadeAt places.DrawFlush least top = Unit {0}
 MadeAt places.Show least top = least ≤ top
 MadeAt places.Clear least top = least ≤ top
-MadeAt places.SetLater least top = Unit
-MadeAt places.Unlock least top = Unit
+MadeAt places.SetLater least top = Unit {0}
+MadeAt places.Unlock least top = Unit {0}
 
 abbrev MadeBy : Option Turn → ℕ → ℕ → Type 0
-MadeBy None least top = Unit
+MadeBy None least top = Unit {0}
 MadeBy (Some t) least top = MadeAt (place_of t.at) least top
 
 -- a flush is still to come at this moment, or one of at least this number was made

@@ -1,6 +1,5 @@
 -- What is so of the words at each access of a run.
-use Rattle.std.proofs.Common.{◌≡◌, ◌<◌, ◌≤◌, ℕ, suc, Bool, true, false, List, [], ◌∷◌, Option, Some, None, refl, sym, subst, arith, tt, cond}
-use Rattle.std.specs.Prelude.{Unit}
+use Rattle.std.proofs.Common.{◌≡◌, ◌<◌, ◌≤◌, ℕ, suc, Bool, true, false, List, [], ◌∷◌, Option, Some, None, refl, sym, subst, arith, cond}
 use Rattle.turn_register.specs.declared.place.Place.{Place}
 use Rattle.turn_register.specs.declared.place.Place.TheVariants as places
 use Rattle.turn_register.specs.declared.turn.Turn.{Turn}
@@ -11,21 +10,21 @@ use Rattle.turn_register.specs.Turns.{next_by, next_turn, after_locked, after_fl
 
 -- what is so while a turn has the lock, by its place
 abbrev pub HeldAt : Place → Turn → ℕ → ℕ → Type 0
-HeldAt places.Whole t flushed top = Unit
-HeldAt places.Draw t flushed top = Unit
-HeldAt places.SeePending t flushed top = Unit
-HeldAt places.SeeFlushed t flushed top = Unit
-HeldAt places.Lock t flushed top = Unit
-HeldAt places.SeeLocked t flushed top = Unit
+HeldAt places.Whole t flushed top = Unit {0}
+HeldAt places.Draw t flushed top = Unit {0}
+HeldAt places.SeePending t flushed top = Unit {0}
+HeldAt places.SeeFlushed t flushed top = Unit {0}
+HeldAt places.Lock t flushed top = Unit {0}
+HeldAt places.SeeLocked t flushed top = Unit {0}
 HeldAt places.Hide t flushed top = t.word ≡ all_hidden
 HeldAt places.DrawFlush t flushed top = flushed ≡ all_hidden
 HeldAt places.Show t flushed top = t.word ≡ top
-HeldAt places.Clear t flushed top = Unit
-HeldAt places.SetLater t flushed top = Unit
-HeldAt places.Unlock t flushed top = Unit
+HeldAt places.Clear t flushed top = Unit {0}
+HeldAt places.SetLater t flushed top = Unit {0}
+HeldAt places.Unlock t flushed top = Unit {0}
 
 abbrev pub HeldBy : Option Turn → ℕ → ℕ → Type 0
-HeldBy None flushed top = Unit
+HeldBy None flushed top = Unit {0}
 HeldBy (Some t) flushed top = HeldAt (place_of t.at) t flushed top
 
 -- the number that a flush drew last is below all that come, and whoever reads the number of the last flush reads at least it

@@ -1,5 +1,5 @@
 -- What is so of every run, whatever its turns are.
-use Rattle.std.specs.Prelude.{◌≡◌, ◌≢◌, ◌<◌, ◌≤◌, ℕ, List, [], ◌∷◌, Unit}
+use Rattle.std.specs.Prelude.{◌≡◌, ◌≢◌, ◌<◌, ◌≤◌, ℕ, List, [], ◌∷◌}
 use Rattle.turn_register.specs.declared.place.Place.{Place}
 use Rattle.turn_register.specs.declared.place.Place.TheVariants as places
 use Rattle.turn_register.specs.declared.turn.Turn.{Turn}
@@ -25,7 +25,7 @@ SetsLater (Inside t read) = IsAt places.SetLater t
 
 -- none of these accesses does
 abbrev pub NoneSetsLater : List Access → Type 0
-NoneSetsLater [] = Unit
+NoneSetsLater [] = Unit {0}
 NoneSetsLater (access ∷ run) = (¬ SetsLater access) × NoneSetsLater run
 
 -- No number is drawn twice: of two draws the later gives the greater number.

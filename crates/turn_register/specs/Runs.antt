@@ -1,5 +1,5 @@
 -- Runs: the accesses of any number of turns to the words that they share, one after another.
-use Rattle.std.specs.Prelude.{◌≡◌, ◌<◌, ℕ, suc, List, [], ◌∷◌, Option, Some, None, Unit}
+use Rattle.std.specs.Prelude.{◌≡◌, ◌<◌, ℕ, suc, List, [], ◌∷◌, Option, Some, None}
 use Rattle.turn_register.specs.declared.place.Place.{Place}
 use Rattle.turn_register.specs.declared.place.Place.TheVariants as places
 use Rattle.turn_register.specs.declared.turn.Turn.{Turn}
@@ -40,12 +40,12 @@ OutsideAt place s read = ⊥
 -- what a turn that has the lock is handed at a place
 abbrev pub InsideAt : Place → Shared → ℕ → Type 0
 InsideAt places.SeeLocked s read = read ≡ s.pending
-InsideAt places.Hide s read = Unit
+InsideAt places.Hide s read = Unit {0}
 InsideAt places.DrawFlush s read = IsDrawn s read
-InsideAt places.Show s read = Unit
-InsideAt places.Clear s read = Unit
-InsideAt places.SetLater s read = Unit
-InsideAt places.Unlock s read = Unit
+InsideAt places.Show s read = Unit {0}
+InsideAt places.Clear s read = Unit {0}
+InsideAt places.SetLater s read = Unit {0}
+InsideAt places.Unlock s read = Unit {0}
 InsideAt place s read = ⊥
 
 -- an access can be made, and reads what is there: a turn takes the lock only if none has it
