@@ -92,7 +92,7 @@ FIELD(ks_session, seconds, 16, 4);
 FIELD(ks_session, with_cas, 20, 4);
 WHOLE(ks_session, 24, 8);
 
-/* Turn, turn_register/src/turn.rt */
+/* RegisterTurn, turn_register/src/turn.rt */
 FIELD(ks_turn, at, 0, 4);
 FIELD(ks_turn, kind, 4, 4);
 FIELD(ks_turn, lane, 8, 4);

@@ -11,7 +11,7 @@ use crate::keeping::{put_back, take_lane};
 use c_lane::{LaneHome, Seed, SessionWanted, session_wanted};
 use memcached_session::{Session, SessionDone, SessionTurn, step};
 use std::alloc::Global;
-use turn_register::{LastTurn, Turn};
+use turn_register::{LastTurn, RegisterTurn};
 
 /// What the next step of a session needs, by the bytes at hand.
 #[unsafe(no_mangle)]
@@ -58,7 +58,7 @@ pub extern "C" fn ks_lane_step(
     alloc: Global,
     session: &mut Session,
     lane: &mut Handle,
-    turn: &Turn,
+    turn: &RegisterTurn,
     bytes: &[u8],
     answer: &mut [u8],
     to: &mut SessionDone,
@@ -92,7 +92,7 @@ pub extern "C" fn ks_lane_step(
 ghost use Rattle.kangaroo_c.specs.Turning.{refusal_of, turn_with};
 
 // Why a turn is refused by a lane, if it is.
-fn refusal_of(home: &LaneHome, last: &LastTurn, turn: &Turn) -> Option<u32>
+fn refusal_of(home: &LaneHome, last: &LastTurn, turn: &RegisterTurn) -> Option<u32>
     ensures { result ≡ refusal_of home.now last.now turn.now }
 {
     if turn.lane != home.number {

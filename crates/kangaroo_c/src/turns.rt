@@ -9,7 +9,7 @@ use crate::handle::Handle;
 use crate::keeping::{put_back, take_lane};
 use c_lane::SessionWanted;
 use std::alloc::Global;
-use turn_register::Turn;
+use turn_register::RegisterTurn;
 
 /// Begins a turn on a lane that is held, for what a step wants of it. Its moment is now, or that of the lane's last turn if that is later.
 /// The lane stays as it is.
@@ -19,14 +19,14 @@ pub extern "C" fn ks_begin_turn(
     lane: &mut Handle,
     wanted: &SessionWanted,
     now: u64,
-    to: &mut Turn,
+    to: &mut RegisterTurn,
 )
     requires { IsFull lane.old.lane }
     ensures begun { BeginsTurn wanted.now now lane.old.lane to.new }
     ensures stays { lane.new.lane ≡ lane.old.lane }
 {
     let kept = take_lane(alloc, lane);
-    *to = Turn::begin(
+    *to = RegisterTurn::begin(
         wanted.place.lane,
         wanted.argument != 0,
         now,
@@ -37,15 +37,15 @@ pub extern "C" fn ks_begin_turn(
 
 /// Begins a flush after a delay in seconds, 0 for at once. Up to 30 days count from now, and more are seconds since 1970.
 #[unsafe(no_mangle)]
-pub extern "C" fn ks_begin_flush(delay: u32, now: u64, to: &mut Turn)
+pub extern "C" fn ks_begin_flush(delay: u32, now: u64, to: &mut RegisterTurn)
     ensures { to.new ≡ flush_begun delay now }
 {
-    *to = Turn::begin_flush(u64::from(delay), now);
+    *to = RegisterTurn::begin_flush(u64::from(delay), now);
 }
 
 /// Goes on with a turn or a flush, after C made the access of its place and read this.
 #[unsafe(no_mangle)]
-pub extern "C" fn ks_go_on(turn: &mut Turn, read: u64)
+pub extern "C" fn ks_go_on(turn: &mut RegisterTurn, read: u64)
     ensures { turn.new ≡ next_turn turn.old read }
 {
     turn.go_on(read);

@@ -2,9 +2,9 @@
 use Rattle.std.proofs.Common.{◌≡◌, ◌≢◌, ◌<◌, ◌≤◌, ℕ, suc, Bool, true, false, List, [], ◌∷◌, Option, Some, None, refl, sym, ap, subst, ◌∙◌, arith, ◌⊎◌, inl, inr}
 use Rattle.std.proofs.lemmas.Bool.{false≢true}
 use Rattle.std.proofs.lemmas.Bool.Decides.{nat_tests}
-use Rattle.turn_register.specs.declared.place.Place.{Place}
-use Rattle.turn_register.specs.declared.place.Place.TheVariants as places
-use Rattle.turn_register.specs.declared.turn.Turn.{Turn}
+use Rattle.turn_register.specs.declared.place.TurnPlace.{TurnPlace}
+use Rattle.turn_register.specs.declared.place.TurnPlace.TheVariants as places
+use Rattle.turn_register.specs.declared.turn.RegisterTurn.{RegisterTurn}
 use Rattle.turn_register.specs.Delays.{is_due}
 use Rattle.turn_register.specs.Places.{place_of}
 use Rattle.turn_register.specs.Runs.{Shared, Access, Outside, Enters, Inside, OutsideAt, InsideAt, Fits, outside_after, inside_after, after, started, Runs}
@@ -14,7 +14,7 @@ use Rattle.turn_register.proofs.Sound.{Sound, of_either, access_sound, run_sound
 use Rattle.turn_register.proofs.Growing.{top_grows, reads_top}
 
 -- a flush of at least this number is about to be made known
-abbrev MadeAt : Place → ℕ → ℕ → Type 0
+abbrev MadeAt : TurnPlace → ℕ → ℕ → Type 0
 MadeAt places.Whole least top = Unit {0}
 MadeAt places.Draw least top = Unit {0}
 MadeAt places.SeePending least top = Unit {0}
@@ -28,7 +28,7 @@ MadeAt places.Clear least top = least ≤ top
 MadeAt places.SetLater least top = Unit {0}
 MadeAt places.Unlock least top = Unit {0}
 
-abbrev MadeBy : Option Turn → ℕ → ℕ → Type 0
+abbrev MadeBy : Option RegisterTurn → ℕ → ℕ → Type 0
 MadeBy None least top = Unit {0}
 MadeBy (Some t) least top = MadeAt (place_of t.at) least top
 
@@ -38,17 +38,17 @@ record Comes (moment least : ℕ) (s : Shared) : Type 0 where
   either : (s.pending ≡ moment) ⊎ (least ≤ s.top)
   made : MadeBy s.inside least s.top
 
-made_next : (place : Place) (t : Turn) (read least top : ℕ) → place_of t.at ≡ place → MadeAt (place_of (next_by place t read).at) least top → MadeBy (Some (next_turn t read)) least top
-made_next place t read least top at made = subst (λ (p : Place). MadeAt (place_of (next_by p t read).at) least top) (sym at) made
+made_next : (place : TurnPlace) (t : RegisterTurn) (read least top : ℕ) → place_of t.at ≡ place → MadeAt (place_of (next_by place t read).at) least top → MadeBy (Some (next_turn t read)) least top
+made_next place t read least top at made = subst (λ (p : TurnPlace). MadeAt (place_of (next_by p t read).at) least top) (sym at) made
 
-flush_made : (t : Turn) (least top : ℕ) → MadeAt (place_of (after_flush t).at) least top
-flush_made t least top = of_either (λ (u : Turn). MadeAt (place_of u.at) least top) _ _ _ tt tt
+flush_made : (t : RegisterTurn) (least top : ℕ) → MadeAt (place_of (after_flush t).at) least top
+flush_made t least top = of_either (λ (u : RegisterTurn). MadeAt (place_of u.at) least top) _ _ _ tt tt
 
-locked_made : (t : Turn) (read least top : ℕ) → MadeAt (place_of (after_locked t read).at) least top
-locked_made t read least top = of_either (λ (u : Turn). MadeAt (place_of u.at) least top) _ _ _ tt (flush_made t least top)
+locked_made : (t : RegisterTurn) (read least top : ℕ) → MadeAt (place_of (after_locked t read).at) least top
+locked_made t read least top = of_either (λ (u : RegisterTurn). MadeAt (place_of u.at) least top) _ _ _ tt (flush_made t least top)
 
 module _ (moment least : ℕ) where
-  outside_comes : (place : Place) (s : Shared) (read : ℕ) → Comes moment least s → OutsideAt place s read → Comes moment least (outside_after place s)
+  outside_comes : (place : TurnPlace) (s : Shared) (read : ℕ) → Comes moment least s → OutsideAt place s read → Comes moment least (outside_after place s)
   outside_comes places.Draw s read comes fits = record { next = omega (arith, comes.next); either = comes.either; made = comes.made }
   outside_comes places.SeePending s read comes fits = comes
   outside_comes places.SeeFlushed s read comes fits = comes
@@ -62,7 +62,7 @@ module _ (moment least : ℕ) where
   outside_comes places.SetLater s read comes fits = absurd fits
   outside_comes places.Unlock s read comes fits = absurd fits
 
-  inside_comes : (place : Place) (s : Shared) (t : Turn) (read : ℕ) → Comes moment least s → place_of t.at ≡ place → (place ≢ places.SetLater) → MadeAt place least s.top → InsideAt place s read →
+  inside_comes : (place : TurnPlace) (s : Shared) (t : RegisterTurn) (read : ℕ) → Comes moment least s → place_of t.at ≡ place → (place ≢ places.SetLater) → MadeAt place least s.top → InsideAt place s read →
       Comes moment least (inside_after place s t read)
   inside_comes places.SeeLocked s t read comes at other made fits =
       record { next = comes.next; either = comes.either; made = made_next places.SeeLocked t read least s.top at (locked_made t read least s.top) }
@@ -84,26 +84,26 @@ module _ (moment least : ℕ) where
   access_comes s (Outside t read) comes other fits = outside_comes (place_of t.at) s read comes fits
   access_comes s (Enters t) comes other fits = record { next = comes.next; either = comes.either; made = made_next places.Lock t 0 least s.top fits.0 tt }
   access_comes s (Inside t read) comes other fits =
-      inside_comes (place_of t.at) s t read comes refl other (subst (λ (i : Option Turn). MadeBy i least s.top) fits.0 comes.made) fits.1
+      inside_comes (place_of t.at) s t read comes refl other (subst (λ (i : Option RegisterTurn). MadeBy i least s.top) fits.0 comes.made) fits.1
 
   run_comes : (run : List Access) (s end : Shared) → Comes moment least s → NoneSetsLater run → Runs s run end → Comes moment least end
   run_comes [] s end comes none runs = subst (Comes moment least) (sym runs) comes
   run_comes (access ∷ run) s end comes none runs = run_comes run (after s access) end (access_comes s access comes none.0 runs.0) none.1 runs.1
 
 -- a flush was set that is to come
-set_comes : (s : Shared) (flush : Turn) (read : ℕ) → place_of flush.at ≡ places.SetLater → Comes flush.word s.next (after s (Inside flush read))
+set_comes : (s : Shared) (flush : RegisterTurn) (read : ℕ) → place_of flush.at ≡ places.SetLater → Comes flush.word s.next (after s (Inside flush read))
 set_comes s flush read at =
-    subst (λ (p : Place). Comes flush.word s.next (inside_after p s flush read)) (sym at)
+    subst (λ (p : TurnPlace). Comes flush.word s.next (inside_after p s flush read)) (sym at)
     (record { next = omega arith; either = inl refl; made = made_next places.SetLater flush read s.next s.top at tt })
 
 -- whoever goes on after what is to come was read has not read one that is due
-pending_by : (c : Bool) (t : Turn) → place_of (cond c (record t { at = 4 }) (record t { at = 3 })).at ≡ places.SeeFlushed → c ≡ false
+pending_by : (c : Bool) (t : RegisterTurn) → place_of (cond c (record t { at = 4 }) (record t { at = 3 })).at ≡ places.SeeFlushed → c ≡ false
 pending_by true t at = absurd cc
 pending_by false t at = refl
 
-is_not_due : (turn : Turn) (pending : ℕ) → place_of turn.at ≡ places.SeePending → place_of (next_turn turn pending).at ≡ places.SeeFlushed → is_due pending turn.moment ≡ false
+is_not_due : (turn : RegisterTurn) (pending : ℕ) → place_of turn.at ≡ places.SeePending → place_of (next_turn turn pending).at ≡ places.SeeFlushed → is_due pending turn.moment ≡ false
 is_not_due turn pending at goes =
-    pending_by (is_due pending turn.moment) turn (subst (λ (p : Place). place_of (next_by p turn pending).at ≡ places.SeeFlushed) at goes)
+    pending_by (is_due pending turn.moment) turn (subst (λ (p : TurnPlace). place_of (next_by p turn pending).at ≡ places.SeeFlushed) at goes)
 
 due : (pending moment : ℕ) → pending ≢ 0 → pending ≤ moment → is_due pending moment ≡ true
 due pending moment some past = grind (arith, nat_tests)
@@ -116,7 +116,7 @@ comes_to_be_seen first before between rest s middle end flush turn later read pe
     let sound_middle = run_sound between set middle sound_set runs in
     let sound_end = run_sound rest middle end sound_middle runs_rest in
     let comes = run_comes flush.word s.next between set middle (set_comes s flush read at) none runs in
-    let is : pending ≡ middle.pending = subst (λ (p : Place). OutsideAt p middle pending) at_turn fits_turn in
+    let is : pending ≡ middle.pending = subst (λ (p : TurnPlace). OutsideAt p middle pending) at_turn fits_turn in
     let not_due = is_not_due turn pending at_turn goes in
     let grown : middle.top ≤ end.top = top_grows rest middle end sound_middle runs_rest in
     let reads : end.top ≤ flushed = reads_top end later flushed sound_end fits_later at_later in

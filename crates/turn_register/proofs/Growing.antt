@@ -1,8 +1,8 @@
 -- Numbers that are drawn grow, and so does the number that a flush drew last.
 use Rattle.std.proofs.Common.{◌≡◌, ◌<◌, ◌≤◌, ℕ, suc, List, [], ◌∷◌, Option, Some, None, refl, sym, ap, subst, ◌∙◌, arith}
-use Rattle.turn_register.specs.declared.place.Place.{Place}
-use Rattle.turn_register.specs.declared.place.Place.TheVariants as places
-use Rattle.turn_register.specs.declared.turn.Turn.{Turn}
+use Rattle.turn_register.specs.declared.place.TurnPlace.{TurnPlace}
+use Rattle.turn_register.specs.declared.place.TurnPlace.TheVariants as places
+use Rattle.turn_register.specs.declared.turn.RegisterTurn.{RegisterTurn}
 use Rattle.turn_register.specs.Places.{place_of}
 use Rattle.turn_register.specs.Runs.{Shared, Access, Outside, Enters, Inside, OutsideAt, InsideAt, Fits, outside_after, inside_after, after, started, Runs}
 use Rattle.turn_register.specs.Laws.{Draws, NumbersDiffer, FlushIsSeen}
@@ -13,7 +13,7 @@ pub record IsLater (s t : Shared) : Type 0 where
   pub next : s.next ≤ t.next
   pub top : s.top ≤ s.next → s.top ≤ t.top
 
-outside_later : (place : Place) (s : Shared) (read : ℕ) → OutsideAt place s read → IsLater s (outside_after place s)
+outside_later : (place : TurnPlace) (s : Shared) (read : ℕ) → OutsideAt place s read → IsLater s (outside_after place s)
 outside_later places.Draw s read fits = record { next = omega arith; top = λ below. omega arith }
 outside_later places.SeePending s read fits = record { next = omega arith; top = λ below. omega arith }
 outside_later places.SeeFlushed s read fits = record { next = omega arith; top = λ below. omega arith }
@@ -27,7 +27,7 @@ outside_later places.Clear s read fits = absurd fits
 outside_later places.SetLater s read fits = absurd fits
 outside_later places.Unlock s read fits = absurd fits
 
-inside_later : (place : Place) (s : Shared) (t : Turn) (read : ℕ) → InsideAt place s read → IsLater s (inside_after place s t read)
+inside_later : (place : TurnPlace) (s : Shared) (t : RegisterTurn) (read : ℕ) → InsideAt place s read → IsLater s (inside_after place s t read)
 inside_later places.SeeLocked s t read fits = record { next = omega arith; top = λ below. omega arith }
 inside_later places.Hide s t read fits = record { next = omega arith; top = λ below. omega arith }
 inside_later places.DrawFlush s t read fits = record { next = omega arith; top = λ below. omega (arith, fits.0) }
@@ -63,12 +63,12 @@ top_grows (access ∷ run) s end sound runs =
 -- a number that is drawn is the next one, and the next one is one more
 drawn : (s : Shared) (access : Access) (n : ℕ) → Fits s access → Draws access n → (n ≡ s.next) × ((after s access).next ≡ suc s.next)
 drawn s (Outside t read) n fits draws =
-    let is = subst (λ (p : Place). OutsideAt p s read) draws.0 fits in
-    (sym draws.1 ∙ is.0, ap (λ (p : Place). (outside_after p s).next) draws.0)
+    let is = subst (λ (p : TurnPlace). OutsideAt p s read) draws.0 fits in
+    (sym draws.1 ∙ is.0, ap (λ (p : TurnPlace). (outside_after p s).next) draws.0)
 drawn s (Enters t) n fits draws = absurd draws
 drawn s (Inside t read) n fits draws =
-    let is = subst (λ (p : Place). InsideAt p s read) draws.0 fits.1 in
-    (sym draws.1 ∙ is.0, ap (λ (p : Place). (inside_after p s t read).next) draws.0)
+    let is = subst (λ (p : TurnPlace). InsideAt p s read) draws.0 fits.1 in
+    (sym draws.1 ∙ is.0, ap (λ (p : TurnPlace). (inside_after p s t read).next) draws.0)
 
 pub differ : NumbersDiffer
 differ s end a b between n m fits_a draws_a runs fits_b draws_b =
@@ -81,9 +81,9 @@ differ s end a b between n m fits_a draws_a runs fits_b draws_b =
     omega arith
 
 -- whoever reads the number of the last flush reads at least what a flush drew
-pub reads_top : (end : Shared) (turn : Turn) (flushed : ℕ) → Sound end → Fits end (Outside turn flushed) → place_of turn.at ≡ places.SeeFlushed → end.top ≤ flushed
+pub reads_top : (end : Shared) (turn : RegisterTurn) (flushed : ℕ) → Sound end → Fits end (Outside turn flushed) → place_of turn.at ≡ places.SeeFlushed → end.top ≤ flushed
 reads_top end turn flushed sound fits at =
-    let is : flushed ≡ end.flushed = subst (λ (p : Place). OutsideAt p end flushed) at fits in
+    let is : flushed ≡ end.flushed = subst (λ (p : TurnPlace). OutsideAt p end flushed) at fits in
     let seen : end.top ≤ end.flushed = sound.seen in
     omega arith
 
@@ -92,7 +92,7 @@ is_seen first before between s end flush turn n flushed runs_before fits at runs
     let sound = run_sound before (started first) s (starts_sound first) runs_before in
     let sound_after = access_sound s (Inside flush n) sound fits in
     let sound_end = run_sound between (after s (Inside flush n)) end sound_after runs in
-    let drew : (after s (Inside flush n)).top ≡ n = ap (λ (p : Place). (inside_after p s flush n).top) at in
+    let drew : (after s (Inside flush n)).top ≡ n = ap (λ (p : TurnPlace). (inside_after p s flush n).top) at in
     let grown : (after s (Inside flush n)).top ≤ end.top = top_grows between (after s (Inside flush n)) end sound_after runs in
     let read : end.top ≤ flushed = reads_top end turn flushed sound_end fits_turn at_turn in
     omega arith

@@ -1,15 +1,15 @@
 -- What is so of the words at each access of a run.
 use Rattle.std.proofs.Common.{◌≡◌, ◌<◌, ◌≤◌, ℕ, suc, Bool, true, false, List, [], ◌∷◌, Option, Some, None, refl, sym, subst, arith, cond}
-use Rattle.turn_register.specs.declared.place.Place.{Place}
-use Rattle.turn_register.specs.declared.place.Place.TheVariants as places
-use Rattle.turn_register.specs.declared.turn.Turn.{Turn}
+use Rattle.turn_register.specs.declared.place.TurnPlace.{TurnPlace}
+use Rattle.turn_register.specs.declared.place.TurnPlace.TheVariants as places
+use Rattle.turn_register.specs.declared.turn.RegisterTurn.{RegisterTurn}
 use Rattle.turn_register.specs.Delays.{all_hidden}
 use Rattle.turn_register.specs.Places.{place_of}
 use Rattle.turn_register.specs.Runs.{Shared, Access, Outside, Enters, Inside, OutsideAt, InsideAt, Fits, outside_after, inside_after, after, started, Runs}
 use Rattle.turn_register.specs.Turns.{next_by, next_turn, after_locked, after_flush}
 
 -- what is so while a turn has the lock, by its place
-abbrev pub HeldAt : Place → Turn → ℕ → ℕ → Type 0
+abbrev pub HeldAt : TurnPlace → RegisterTurn → ℕ → ℕ → Type 0
 HeldAt places.Whole t flushed top = Unit {0}
 HeldAt places.Draw t flushed top = Unit {0}
 HeldAt places.SeePending t flushed top = Unit {0}
@@ -23,7 +23,7 @@ HeldAt places.Clear t flushed top = Unit {0}
 HeldAt places.SetLater t flushed top = Unit {0}
 HeldAt places.Unlock t flushed top = Unit {0}
 
-abbrev pub HeldBy : Option Turn → ℕ → ℕ → Type 0
+abbrev pub HeldBy : Option RegisterTurn → ℕ → ℕ → Type 0
 HeldBy None flushed top = Unit {0}
 HeldBy (Some t) flushed top = HeldAt (place_of t.at) t flushed top
 
@@ -35,7 +35,7 @@ pub record Sound (s : Shared) : Type 0 where
   pub held : HeldBy s.inside s.flushed s.top
 
 -- what holds of both is so of either
-pub of_either : (P : Turn → Type 0) (c : Bool) (a b : Turn) → P a → P b → P (cond c a b)
+pub of_either : (P : RegisterTurn → Type 0) (c : Bool) (a b : RegisterTurn) → P a → P b → P (cond c a b)
 of_either P true a b first second = first
 of_either P false a b first second = second
 
@@ -43,17 +43,17 @@ within : (a b c : ℕ) → a < c → b ≡ c → a ≤ b
 within a b c less is = omega arith
 
 -- what is so at the place where a turn that has the lock goes on
-held_next : (place : Place) (t : Turn) (read flushed top : ℕ) → place_of t.at ≡ place → HeldAt (place_of (next_by place t read).at) (next_by place t read) flushed top →
+held_next : (place : TurnPlace) (t : RegisterTurn) (read flushed top : ℕ) → place_of t.at ≡ place → HeldAt (place_of (next_by place t read).at) (next_by place t read) flushed top →
     HeldBy (Some (next_turn t read)) flushed top
-held_next place t read flushed top at held = subst (λ (p : Place). HeldAt (place_of (next_by p t read).at) (next_by p t read) flushed top) (sym at) held
+held_next place t read flushed top at held = subst (λ (p : TurnPlace). HeldAt (place_of (next_by p t read).at) (next_by p t read) flushed top) (sym at) held
 
-flush_held : (t : Turn) (flushed top : ℕ) → HeldAt (place_of (after_flush t).at) (after_flush t) flushed top
-flush_held t flushed top = of_either (λ (u : Turn). HeldAt (place_of u.at) u flushed top) _ _ _ tt tt
+flush_held : (t : RegisterTurn) (flushed top : ℕ) → HeldAt (place_of (after_flush t).at) (after_flush t) flushed top
+flush_held t flushed top = of_either (λ (u : RegisterTurn). HeldAt (place_of u.at) u flushed top) _ _ _ tt tt
 
-locked_held : (t : Turn) (read flushed top : ℕ) → HeldAt (place_of (after_locked t read).at) (after_locked t read) flushed top
-locked_held t read flushed top = of_either (λ (u : Turn). HeldAt (place_of u.at) u flushed top) _ _ _ refl (flush_held t flushed top)
+locked_held : (t : RegisterTurn) (read flushed top : ℕ) → HeldAt (place_of (after_locked t read).at) (after_locked t read) flushed top
+locked_held t read flushed top = of_either (λ (u : RegisterTurn). HeldAt (place_of u.at) u flushed top) _ _ _ refl (flush_held t flushed top)
 
-outside_sound : (place : Place) (s : Shared) (read : ℕ) → Sound s → OutsideAt place s read → Sound (outside_after place s)
+outside_sound : (place : TurnPlace) (s : Shared) (read : ℕ) → Sound s → OutsideAt place s read → Sound (outside_after place s)
 outside_sound places.Draw s read sound fits = record { limit = sound.limit; below = omega arith; seen = sound.seen; held = sound.held }
 outside_sound places.SeePending s read sound fits = sound
 outside_sound places.SeeFlushed s read sound fits = sound
@@ -67,7 +67,7 @@ outside_sound places.Clear s read sound fits = absurd fits
 outside_sound places.SetLater s read sound fits = absurd fits
 outside_sound places.Unlock s read sound fits = absurd fits
 
-inside_sound : (place : Place) (s : Shared) (t : Turn) (read : ℕ) → Sound s → place_of t.at ≡ place → HeldAt place t s.flushed s.top → InsideAt place s read → Sound (inside_after place s t read)
+inside_sound : (place : TurnPlace) (s : Shared) (t : RegisterTurn) (read : ℕ) → Sound s → place_of t.at ≡ place → HeldAt place t s.flushed s.top → InsideAt place s read → Sound (inside_after place s t read)
 inside_sound places.SeeLocked s t read sound at held fits =
     record { limit = sound.limit; below = sound.below; seen = sound.seen; held = held_next places.SeeLocked t read s.flushed s.top at (locked_held t read s.flushed s.top) }
 inside_sound places.Hide s t read sound at held fits =
@@ -92,7 +92,7 @@ access_sound s (Outside t read) sound fits = outside_sound (place_of t.at) s rea
 access_sound s (Enters t) sound fits =
     record { limit = sound.limit; below = sound.below; seen = sound.seen; held = held_next places.Lock t 0 s.flushed s.top fits.0 tt }
 access_sound s (Inside t read) sound fits =
-    inside_sound (place_of t.at) s t read sound refl (subst (λ (i : Option Turn). HeldBy i s.flushed s.top) fits.0 sound.held) fits.1
+    inside_sound (place_of t.at) s t read sound refl (subst (λ (i : Option RegisterTurn). HeldBy i s.flushed s.top) fits.0 sound.held) fits.1
 
 pub run_sound : (run : List Access) (s end : Shared) → Sound s → Runs s run end → Sound end
 run_sound [] s end sound runs = subst Sound (sym runs) sound

@@ -1,14 +1,14 @@
 -- What is so of every run, whatever its turns are.
 use Rattle.std.specs.Prelude.{◌≡◌, ◌≢◌, ◌<◌, ◌≤◌, ℕ, List, [], ◌∷◌}
-use Rattle.turn_register.specs.declared.place.Place.{Place}
-use Rattle.turn_register.specs.declared.place.Place.TheVariants as places
-use Rattle.turn_register.specs.declared.turn.Turn.{Turn}
+use Rattle.turn_register.specs.declared.place.TurnPlace.{TurnPlace}
+use Rattle.turn_register.specs.declared.place.TurnPlace.TheVariants as places
+use Rattle.turn_register.specs.declared.turn.RegisterTurn.{RegisterTurn}
 use Rattle.turn_register.specs.Places.{place_of}
 use Rattle.turn_register.specs.Runs.{Shared, Access, Outside, Enters, Inside, Fits, after, started, Runs}
 use Rattle.turn_register.specs.Turns.{next_turn}
 
 -- a turn stands at a place
-abbrev pub IsAt : Place → Turn → Type 0
+abbrev pub IsAt : TurnPlace → RegisterTurn → Type 0
 IsAt place t = place_of t.at ≡ place
 
 -- an access draws a number: for an item, or for a flush
@@ -36,7 +36,7 @@ NumbersDiffer =
 -- A flush that drew a number is seen from then on: whoever reads the number of the last flush after that reads at least this one.
 abbrev pub FlushIsSeen : Type 0
 FlushIsSeen =
-    (first : ℕ) (before between : List Access) (s end : Shared) (flush turn : Turn) (n flushed : ℕ) →
+    (first : ℕ) (before between : List Access) (s end : Shared) (flush turn : RegisterTurn) (n flushed : ℕ) →
     Runs (started first) before s → Fits s (Inside flush n) → IsAt places.DrawFlush flush →
     Runs (after s (Inside flush n)) between end → Fits end (Outside turn flushed) → IsAt places.SeeFlushed turn → n ≤ flushed
 
@@ -45,7 +45,7 @@ FlushIsSeen =
 -- delay may have been set in between.
 abbrev pub FlushToComeIsSeen : Type 0
 FlushToComeIsSeen =
-    (first : ℕ) (before between rest : List Access) (s middle end : Shared) (flush turn later : Turn) (read pending flushed : ℕ) →
+    (first : ℕ) (before between rest : List Access) (s middle end : Shared) (flush turn later : RegisterTurn) (read pending flushed : ℕ) →
     Runs (started first) before s → Fits s (Inside flush read) → IsAt places.SetLater flush → flush.word ≢ 0 →
     Runs (after s (Inside flush read)) between middle → NoneSetsLater between →
     Fits middle (Outside turn pending) → IsAt places.SeePending turn → flush.word ≤ turn.moment → IsAt places.SeeFlushed (next_turn turn pending) →

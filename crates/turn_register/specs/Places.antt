@@ -1,10 +1,10 @@
 -- The numbers of the places of a turn.
 use Rattle.std.specs.Prelude.{ℕ, ◌==◌, if◌then◌else◌}
-use Rattle.turn_register.specs.declared.place.Place.{Place}
-use Rattle.turn_register.specs.declared.place.Place.TheVariants as places
+use Rattle.turn_register.specs.declared.place.TurnPlace.{TurnPlace}
+use Rattle.turn_register.specs.declared.place.TurnPlace.TheVariants as places
 
 -- the number of a place
-abbrev pub number_of_place : Place → ℕ
+abbrev pub number_of_place : TurnPlace → ℕ
 number_of_place places.Whole = 0
 number_of_place places.Draw = 1
 number_of_place places.SeePending = 2
@@ -19,7 +19,7 @@ number_of_place places.SetLater = 10
 number_of_place places.Unlock = 11
 
 -- the place of a number: one that is no place's stands for a turn that is whole
-abbrev pub place_of : ℕ → Place
+abbrev pub place_of : ℕ → TurnPlace
 place_of n =
     if n == 1 then places.Draw
     else (if n == 2 then places.SeePending

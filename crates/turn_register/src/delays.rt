@@ -1,5 +1,5 @@
 // The moment of a flush that is to come, and the first number.
-ghost use Rattle.std.specs.Prelude.{◌≡◌, ◌<◌, ◌≤◌, ◌^◌};
+ghost use Rattle.std.specs.Prelude.{◌≡◌, ◌<◌, ◌^◌};
 ghost use Rattle.turn_register.specs.Delays.{is_due, later_of, first_number};
 
 /// Up to so many seconds a delay counts from now; more are seconds since 1970.

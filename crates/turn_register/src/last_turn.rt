@@ -2,7 +2,7 @@
 ghost use Rattle.std.specs.Prelude.{◌≡◌};
 ghost use Rattle.turn_register.specs.Following.{no_turn, follows, last_after};
 
-use crate::turn::{ALL_HIDDEN, GIVES, Turn};
+use crate::turn::{ALL_HIDDEN, GIVES, RegisterTurn};
 
 /// What the turns were that a lane was given.
 #[derive(Clone, Copy)]
@@ -29,7 +29,7 @@ impl LastTurn {
 
     /// Whether a turn may follow: it is whole and no flush, its moment is not before the last one, the flush that it saw is not before one
     /// that was seen, and a number that it gives is above the last one and above that of its flush.
-    pub fn is_followed_by(&self, turn: &Turn) -> bool
+    pub fn is_followed_by(&self, turn: &RegisterTurn) -> bool
         ensures { result ≡ follows self.now turn.now }
     {
         turn.at == 0
@@ -40,7 +40,7 @@ impl LastTurn {
     }
 
     /// The same after a turn that follows.
-    pub fn after(&self, turn: &Turn) -> LastTurn
+    pub fn after(&self, turn: &RegisterTurn) -> LastTurn
         ensures { result ≡ last_after self.now turn.now }
     {
         LastTurn {

@@ -13,5 +13,5 @@ mod turn;
 pub use delays::first_number;
 pub use last_turn::LastTurn;
 pub use laws::{flush_is_seen, flush_to_come_is_seen, numbers_differ};
-pub use place::Place;
-pub use turn::{ALL_HIDDEN, Turn};
+pub use place::TurnPlace;
+pub use turn::{ALL_HIDDEN, RegisterTurn};

@@ -4,7 +4,7 @@ ghost use Rattle.turn_register.specs.Places.{number_of_place, place_of};
 
 /// Where a turn stands: which access its caller makes next.
 #[derive(Clone, Copy)]
-pub enum Place {
+pub enum TurnPlace {
     /// None: the turn is whole.
     Whole,
     /// Draw the item's number: add 1 to `next`, and read what it was.
@@ -31,44 +31,44 @@ pub enum Place {
     Unlock,
 }
 
-impl Place {
-    /// Its number, as `Turn` has it.
+impl TurnPlace {
+    /// Its number, as `RegisterTurn` has it.
     pub fn number(self) -> u32
         ensures { result ≡ number_of_place self }
     {
         match self {
-            Place::Whole => 0,
-            Place::Draw => 1,
-            Place::SeePending => 2,
-            Place::SeeFlushed => 3,
-            Place::Lock => 4,
-            Place::SeeLocked => 5,
-            Place::Hide => 6,
-            Place::DrawFlush => 7,
-            Place::Show => 8,
-            Place::Clear => 9,
-            Place::SetLater => 10,
-            Place::Unlock => 11,
+            TurnPlace::Whole => 0,
+            TurnPlace::Draw => 1,
+            TurnPlace::SeePending => 2,
+            TurnPlace::SeeFlushed => 3,
+            TurnPlace::Lock => 4,
+            TurnPlace::SeeLocked => 5,
+            TurnPlace::Hide => 6,
+            TurnPlace::DrawFlush => 7,
+            TurnPlace::Show => 8,
+            TurnPlace::Clear => 9,
+            TurnPlace::SetLater => 10,
+            TurnPlace::Unlock => 11,
         }
     }
 
     /// The place of a number: at one that is no place's nothing is done.
-    pub fn of(number: u32) -> Place
+    pub fn of(number: u32) -> TurnPlace
         ensures { result ≡ place_of number }
     {
         match number {
-            1 => Place::Draw,
-            2 => Place::SeePending,
-            3 => Place::SeeFlushed,
-            4 => Place::Lock,
-            5 => Place::SeeLocked,
-            6 => Place::Hide,
-            7 => Place::DrawFlush,
-            8 => Place::Show,
-            9 => Place::Clear,
-            10 => Place::SetLater,
-            11 => Place::Unlock,
-            _ => Place::Whole,
+            1 => TurnPlace::Draw,
+            2 => TurnPlace::SeePending,
+            3 => TurnPlace::SeeFlushed,
+            4 => TurnPlace::Lock,
+            5 => TurnPlace::SeeLocked,
+            6 => TurnPlace::Hide,
+            7 => TurnPlace::DrawFlush,
+            8 => TurnPlace::Show,
+            9 => TurnPlace::Clear,
+            10 => TurnPlace::SetLater,
+            11 => TurnPlace::Unlock,
+            _ => TurnPlace::Whole,
         }
     }
 }

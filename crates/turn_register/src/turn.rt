@@ -1,11 +1,11 @@
 // A turn of a command, or a flush, that is made access by access.
-ghost use Rattle.std.specs.Prelude.{◌≡◌, ◌<◌, ◌≤◌};
+ghost use Rattle.std.specs.Prelude.{◌≡◌, ◌<◌};
 ghost use Rattle.turn_register.specs.Places.{place_of};
-ghost use Rattle.turn_register.specs.Turns.{turn_begun, flush_begun, is_flush, next_turn, gives_number};
-ghost use Rattle.turn_register.specs.declared.place.Place.{Place};
+ghost use Rattle.turn_register.specs.Turns.{turn_begun, flush_begun, next_turn};
+ghost use Rattle.turn_register.specs.declared.place.TurnPlace.{TurnPlace};
 
 use crate::delays::{is_due, later_of};
-use crate::place::Place;
+use crate::place::TurnPlace;
 
 /// While this is the number of the last flush, every item is hidden.
 pub const ALL_HIDDEN: u64 = u64::MAX;
@@ -20,7 +20,7 @@ const FLUSHES: u32 = 2;
 /// `Whole`. Any other numbers are safe too.
 #[repr(C)]
 #[derive(Clone, Copy)]
-pub struct Turn {
+pub struct RegisterTurn {
     /// The number of its place: what its caller does next.
     pub at: u32,
     /// 0 a turn that gives an item no number, 1 a turn that gives one, 2 a flush.
@@ -41,38 +41,38 @@ pub struct Turn {
     pub flushed: u64,
 }
 
-impl Turn {
+impl RegisterTurn {
     /// Begins a turn of a command on a lane. Its moment is now, or the last one of the lane if that is later.
-    pub fn begin(lane: u32, draws: bool, now: u64, last: u64) -> Turn
+    pub fn begin(lane: u32, draws: bool, now: u64, last: u64) -> RegisterTurn
         ensures { result ≡ turn_begun lane draws now last }
     {
         let kind = if draws { GIVES } else { LOOKS };
-        Turn {
+        RegisterTurn {
             lane,
             moment: now.max(last),
-            ..Turn::of_kind(kind)
+            ..RegisterTurn::of_kind(kind)
         }
     }
 
     /// Begins a flush after a delay in seconds, 0 for at once: up to 30 days count from now, and more are seconds since 1970. One that is
     /// to come takes the place of another that is.
-    pub fn begin_flush(delay: u64, now: u64) -> Turn
+    pub fn begin_flush(delay: u64, now: u64) -> RegisterTurn
         ensures { result ≡ flush_begun delay now }
     {
-        Turn {
+        RegisterTurn {
             moment: now,
             later: later_of(delay, now),
-            ..Turn::of_kind(FLUSHES)
+            ..RegisterTurn::of_kind(FLUSHES)
         }
     }
 
     ghost use Rattle.turn_register.specs.Turns.{first_place, turn_of_kind, at_place};
 
     // A turn of a kind, at its first place.
-    fn of_kind(kind: u32) -> Turn
+    fn of_kind(kind: u32) -> RegisterTurn
         ensures { result ≡ turn_of_kind kind }
     {
-        Turn {
+        RegisterTurn {
             at: first_place(kind).number(),
             kind,
             lane: 0,
@@ -86,10 +86,10 @@ impl Turn {
     }
 
     // The same turn at another place.
-    fn at_place(self, place: Place) -> Turn
+    fn at_place(self, place: TurnPlace) -> RegisterTurn
         ensures { result ≡ at_place place self }
     {
-        Turn {
+        RegisterTurn {
             at: place.number(),
             ..self
         }
@@ -99,84 +99,84 @@ impl Turn {
     /// gives a number is whole only if the number is above that of the last flush.
     pub fn go_on(&mut self, read: u64)
         ensures exact { self.new ≡ next_turn self.old read }
-        ensures above { place_of self.old.at ≡ Place.SeeFlushed → place_of self.new.at ≡ Place.Whole → self.old.kind ≡ 1
+        ensures above { place_of self.old.at ≡ TurnPlace.SeeFlushed → place_of self.new.at ≡ TurnPlace.Whole → self.old.kind ≡ 1
             → self.new.flushed < self.new.cas }
     {
         *self = self.after(read);
     }
 
     // The turn after what was read at its place.
-    fn after(self, read: u64) -> Turn
+    fn after(self, read: u64) -> RegisterTurn
         ensures { result ≡ next_turn self read }
     {
-        match Place::of(self.at) {
-            Place::Whole => self,
-            Place::Draw => Turn { cas: read, ..self.at_place(Place::SeePending) },
-            Place::SeePending => self.after_pending(read),
-            Place::SeeFlushed => self.after_flushed(read),
-            Place::Lock => self.at_place(Place::SeeLocked),
-            Place::SeeLocked => self.after_locked(read),
-            Place::Hide => self.at_place(Place::DrawFlush),
-            Place::DrawFlush => Turn { word: read, ..self.at_place(Place::Show) },
-            Place::Show => Turn { word: 0, ..self.at_place(Place::Clear) },
-            Place::Clear => self.after_flush(),
-            Place::SetLater => self.at_place(Place::Unlock),
-            Place::Unlock => self.after_unlock(),
+        match TurnPlace::of(self.at) {
+            TurnPlace::Whole => self,
+            TurnPlace::Draw => RegisterTurn { cas: read, ..self.at_place(TurnPlace::SeePending) },
+            TurnPlace::SeePending => self.after_pending(read),
+            TurnPlace::SeeFlushed => self.after_flushed(read),
+            TurnPlace::Lock => self.at_place(TurnPlace::SeeLocked),
+            TurnPlace::SeeLocked => self.after_locked(read),
+            TurnPlace::Hide => self.at_place(TurnPlace::DrawFlush),
+            TurnPlace::DrawFlush => RegisterTurn { word: read, ..self.at_place(TurnPlace::Show) },
+            TurnPlace::Show => RegisterTurn { word: 0, ..self.at_place(TurnPlace::Clear) },
+            TurnPlace::Clear => self.after_flush(),
+            TurnPlace::SetLater => self.at_place(TurnPlace::Unlock),
+            TurnPlace::Unlock => self.after_unlock(),
         }
     }
 
     ghost use Rattle.turn_register.specs.Turns.{after_pending, after_flushed, after_locked, after_flush, after_unlock};
 
     // A flush that is due is made first.
-    fn after_pending(self, pending: u64) -> Turn
+    fn after_pending(self, pending: u64) -> RegisterTurn
         ensures { result ≡ after_pending self pending }
     {
         if is_due(pending, self.moment) {
-            self.at_place(Place::Lock)
+            self.at_place(TurnPlace::Lock)
         } else {
-            self.at_place(Place::SeeFlushed)
+            self.at_place(TurnPlace::SeeFlushed)
         }
     }
 
     // A number that is not above that of the last flush is given up: beside a flush that is under way by way of its lock.
-    fn after_flushed(self, flushed: u64) -> Turn
+    fn after_flushed(self, flushed: u64) -> RegisterTurn
         ensures { result ≡ after_flushed self flushed }
     {
         if self.kind != GIVES || flushed < self.cas {
-            return Turn { flushed, ..self.at_place(Place::Whole) };
+            return RegisterTurn { flushed, ..self.at_place(TurnPlace::Whole) };
         }
         if flushed == ALL_HIDDEN {
-            self.at_place(Place::Lock)
+            self.at_place(TurnPlace::Lock)
         } else {
-            self.at_place(Place::Draw)
+            self.at_place(TurnPlace::Draw)
         }
     }
 
     // In the hold of the lock: the flush is made if it is for now, or if one that was to come is due.
-    fn after_locked(self, pending: u64) -> Turn
+    fn after_locked(self, pending: u64) -> RegisterTurn
         ensures { result ≡ after_locked self pending }
     {
         let is_now = self.kind == FLUSHES && self.later == 0;
         if is_now || is_due(pending, self.moment) {
-            Turn { word: ALL_HIDDEN, ..self.at_place(Place::Hide) }
+            RegisterTurn { word: ALL_HIDDEN, ..self.at_place(TurnPlace::Hide) }
         } else {
             self.after_flush()
         }
     }
 
     // After a flush that was made, or was not to be: one that is to come is set.
-    fn after_flush(self) -> Turn
+    fn after_flush(self) -> RegisterTurn
         ensures { result ≡ after_flush self }
     {
         if self.kind == FLUSHES && self.later != 0 {
-            Turn { word: self.later, ..self.at_place(Place::SetLater) }
+            RegisterTurn { word: self.later, ..self.at_place(TurnPlace::SetLater) }
         } else {
-            self.at_place(Place::Unlock)
+            self.at_place(TurnPlace::Unlock)
         }
     }
 
     // A flush is whole, and a turn begins again.
-    fn after_unlock(self) -> Turn
+    fn after_unlock(self) -> RegisterTurn
         ensures { result ≡ after_unlock self }
     {
         self.at_place(place_again(self.kind))
@@ -186,23 +186,23 @@ impl Turn {
 ghost use Rattle.turn_register.specs.Turns.{first_place, place_again};
 
 // Where a turn of a kind begins.
-fn first_place(kind: u32) -> Place
+fn first_place(kind: u32) -> TurnPlace
     ensures { result ≡ first_place kind }
 {
     match kind {
-        LOOKS => Place::SeePending,
-        GIVES => Place::Draw,
-        _ => Place::Lock,
+        LOOKS => TurnPlace::SeePending,
+        GIVES => TurnPlace::Draw,
+        _ => TurnPlace::Lock,
     }
 }
 
 // Where a turn of a kind goes on after the lock.
-fn place_again(kind: u32) -> Place
+fn place_again(kind: u32) -> TurnPlace
     ensures { result ≡ place_again kind }
 {
     match kind {
-        LOOKS => Place::SeePending,
-        GIVES => Place::Draw,
-        _ => Place::Whole,
+        LOOKS => TurnPlace::SeePending,
+        GIVES => TurnPlace::Draw,
+        _ => TurnPlace::Whole,
     }
 }
