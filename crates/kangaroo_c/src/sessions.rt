@@ -82,7 +82,9 @@ pub extern "C" fn ks_lane_step(
         return refusal;
     }
     let given = turn_of(turn.moment, turn.flushed, turn.cas, 0);
-    *to = kept.lane.session_step(alloc, session, &given, bytes, answer);
+    *to = kept
+        .lane
+        .session_step(alloc, session, &given, bytes, answer);
     kept.last = kept.last.after(turn);
     let is_due = u32::from(kept.lane.is_due());
     put_back(lane, kept);

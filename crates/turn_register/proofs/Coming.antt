@@ -1,5 +1,5 @@
 -- A flush that is to come is seen from its moment on.
-use Rattle.std.proofs.Common.{◌≡◌, ◌≢◌, ◌<◌, ◌≤◌, ℕ, suc, Bool, true, false, List, [], ◌∷◌, Option, Some, None, refl, sym, ap, subst, ◌∙◌, arith, ◌⊎◌, inl, inr}
+use Rattle.std.proofs.Common.{◌≡◌, ◌≢◌, ◌≤◌, ℕ, Bool, true, false, List, [], ◌∷◌, Option, Some, None, refl, sym, ap, subst, ◌∙◌, arith, cond, ◌⊎◌, inl, inr}
 use Rattle.std.proofs.lemmas.Bool.{false≢true}
 use Rattle.std.proofs.lemmas.Bool.Decides.{nat_tests}
 use Rattle.turn_register.specs.declared.place.TurnPlace.{TurnPlace}
@@ -9,8 +9,8 @@ use Rattle.turn_register.specs.Delays.{is_due}
 use Rattle.turn_register.specs.Places.{place_of}
 use Rattle.turn_register.specs.Runs.{Shared, Access, Outside, Enters, Inside, OutsideAt, InsideAt, Fits, outside_after, inside_after, after, started, Runs}
 use Rattle.turn_register.specs.Laws.{SetsLater, NoneSetsLater, FlushToComeIsSeen}
-use Rattle.turn_register.specs.Turns.{next_by, next_turn, after_locked, after_flush, after_pending}
-use Rattle.turn_register.proofs.Sound.{Sound, of_either, access_sound, run_sound, starts_sound}
+use Rattle.turn_register.specs.Turns.{next_by, next_turn, after_locked, after_flush}
+use Rattle.turn_register.proofs.Sound.{of_after_flush, of_after_locked, access_sound, run_sound, starts_sound}
 use Rattle.turn_register.proofs.Growing.{top_grows, reads_top}
 
 -- a flush of at least this number is about to be made known
@@ -42,10 +42,10 @@ made_next : (place : TurnPlace) (t : RegisterTurn) (read least top : ℕ) → pl
 made_next place t read least top at made = subst (λ (p : TurnPlace). MadeAt (place_of (next_by p t read).at) least top) (sym at) made
 
 flush_made : (t : RegisterTurn) (least top : ℕ) → MadeAt (place_of (after_flush t).at) least top
-flush_made t least top = of_either (λ (u : RegisterTurn). MadeAt (place_of u.at) least top) _ _ _ tt tt
+flush_made t least top = of_after_flush (λ (u : RegisterTurn). MadeAt (place_of u.at) least top) t tt tt
 
 locked_made : (t : RegisterTurn) (read least top : ℕ) → MadeAt (place_of (after_locked t read).at) least top
-locked_made t read least top = of_either (λ (u : RegisterTurn). MadeAt (place_of u.at) least top) _ _ _ tt (flush_made t least top)
+locked_made t read least top = of_after_locked (λ (u : RegisterTurn). MadeAt (place_of u.at) least top) t read tt (flush_made t least top)
 
 module _ (moment least : ℕ) where
   outside_comes : (place : TurnPlace) (s : Shared) (read : ℕ) → Comes moment least s → OutsideAt place s read → Comes moment least (outside_after place s)

@@ -1,5 +1,5 @@
 -- Numbers that are drawn grow, and so does the number that a flush drew last.
-use Rattle.std.proofs.Common.{◌≡◌, ◌<◌, ◌≤◌, ℕ, suc, List, [], ◌∷◌, Option, Some, None, refl, sym, ap, subst, ◌∙◌, arith}
+use Rattle.std.proofs.Common.{◌≡◌, ◌≤◌, ℕ, suc, List, [], ◌∷◌, sym, ap, subst, ◌∙◌, arith}
 use Rattle.turn_register.specs.declared.place.TurnPlace.{TurnPlace}
 use Rattle.turn_register.specs.declared.place.TurnPlace.TheVariants as places
 use Rattle.turn_register.specs.declared.turn.RegisterTurn.{RegisterTurn}

@@ -1,12 +1,12 @@
 -- What is so of the words at each access of a run.
-use Rattle.std.proofs.Common.{◌≡◌, ◌<◌, ◌≤◌, ℕ, suc, Bool, true, false, List, [], ◌∷◌, Option, Some, None, refl, sym, subst, arith, cond}
+use Rattle.std.proofs.Common.{◌≡◌, ◌<◌, ◌≤◌, ℕ, Bool, true, false, List, [], ◌∷◌, Option, Some, None, refl, sym, subst, arith, cond, ◌==◌, ◌&&◌, ◌||◌, not}
 use Rattle.turn_register.specs.declared.place.TurnPlace.{TurnPlace}
 use Rattle.turn_register.specs.declared.place.TurnPlace.TheVariants as places
 use Rattle.turn_register.specs.declared.turn.RegisterTurn.{RegisterTurn}
-use Rattle.turn_register.specs.Delays.{all_hidden}
+use Rattle.turn_register.specs.Delays.{all_hidden, is_due}
 use Rattle.turn_register.specs.Places.{place_of}
 use Rattle.turn_register.specs.Runs.{Shared, Access, Outside, Enters, Inside, OutsideAt, InsideAt, Fits, outside_after, inside_after, after, started, Runs}
-use Rattle.turn_register.specs.Turns.{next_by, next_turn, after_locked, after_flush}
+use Rattle.turn_register.specs.Turns.{at_place, writing, next_by, next_turn, after_locked, after_flush}
 
 -- what is so while a turn has the lock, by its place
 abbrev pub HeldAt : TurnPlace → RegisterTurn → ℕ → ℕ → Type 0
@@ -34,10 +34,18 @@ pub record Sound (s : Shared) : Type 0 where
   pub seen : s.top ≤ s.flushed
   pub held : HeldBy s.inside s.flushed s.top
 
--- what holds of both is so of either
-pub of_either : (P : RegisterTurn → Type 0) (c : Bool) (a b : RegisterTurn) → P a → P b → P (cond c a b)
+of_either : (P : RegisterTurn → Type 0) (c : Bool) (a b : RegisterTurn) → P a → P b → P (cond c a b)
 of_either P true a b first second = first
 of_either P false a b first second = second
+
+-- what is so of a turn that goes on after a flush
+pub of_after_flush : (P : RegisterTurn → Type 0) (t : RegisterTurn) → P (writing places.SetLater t.later t) → P (at_place places.Unlock t) → P (after_flush t)
+of_after_flush P t first second = of_either P ((t.kind == 2) && not (t.later == 0)) (writing places.SetLater t.later t) (at_place places.Unlock t) first second
+
+-- what is so of one that goes on in the hold of the lock
+pub of_after_locked : (P : RegisterTurn → Type 0) (t : RegisterTurn) (read : ℕ) → P (writing places.Hide all_hidden t) → P (after_flush t) → P (after_locked t read)
+of_after_locked P t read first second =
+    of_either P (((t.kind == 2) && (t.later == 0)) || is_due read t.moment) (writing places.Hide all_hidden t) (after_flush t) first second
 
 within : (a b c : ℕ) → a < c → b ≡ c → a ≤ b
 within a b c less is = omega arith
@@ -48,10 +56,10 @@ held_next : (place : TurnPlace) (t : RegisterTurn) (read flushed top : ℕ) → 
 held_next place t read flushed top at held = subst (λ (p : TurnPlace). HeldAt (place_of (next_by p t read).at) (next_by p t read) flushed top) (sym at) held
 
 flush_held : (t : RegisterTurn) (flushed top : ℕ) → HeldAt (place_of (after_flush t).at) (after_flush t) flushed top
-flush_held t flushed top = of_either (λ (u : RegisterTurn). HeldAt (place_of u.at) u flushed top) _ _ _ tt tt
+flush_held t flushed top = of_after_flush (λ (u : RegisterTurn). HeldAt (place_of u.at) u flushed top) t tt tt
 
 locked_held : (t : RegisterTurn) (read flushed top : ℕ) → HeldAt (place_of (after_locked t read).at) (after_locked t read) flushed top
-locked_held t read flushed top = of_either (λ (u : RegisterTurn). HeldAt (place_of u.at) u flushed top) _ _ _ refl (flush_held t flushed top)
+locked_held t read flushed top = of_after_locked (λ (u : RegisterTurn). HeldAt (place_of u.at) u flushed top) t read refl (flush_held t flushed top)
 
 outside_sound : (place : TurnPlace) (s : Shared) (read : ℕ) → Sound s → OutsideAt place s read → Sound (outside_after place s)
 outside_sound places.Draw s read sound fits = record { limit = sound.limit; below = omega arith; seen = sound.seen; held = sound.held }

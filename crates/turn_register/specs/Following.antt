@@ -1,5 +1,5 @@
 -- Which turn may follow another in a lane.
-use Rattle.std.specs.Prelude.{ℕ, Bool, not, ◌&&◌, ◌||◌, ◌==◌, nat_le, nat_lt, if◌then◌else◌}
+use Rattle.std.specs.Prelude.{Bool, not, ◌&&◌, ◌||◌, ◌==◌, nat_le, nat_lt, if◌then◌else◌}
 use Rattle.turn_register.specs.declared.last_turn.LastTurn.{LastTurn}
 use Rattle.turn_register.specs.declared.turn.RegisterTurn.{RegisterTurn}
 use Rattle.turn_register.specs.Delays.{all_hidden}

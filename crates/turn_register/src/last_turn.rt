@@ -45,8 +45,16 @@ impl LastTurn {
     {
         LastTurn {
             moment: turn.moment,
-            flushed: if turn.flushed == ALL_HIDDEN { self.flushed } else { turn.flushed },
-            cas: if turn.kind == GIVES { turn.cas } else { self.cas },
+            flushed: if turn.flushed == ALL_HIDDEN {
+                self.flushed
+            } else {
+                turn.flushed
+            },
+            cas: if turn.kind == GIVES {
+                turn.cas
+            } else {
+                self.cas
+            },
         }
     }
 }

@@ -2,7 +2,6 @@
 ghost use Rattle.std.specs.Prelude.{◌≡◌, ◌<◌};
 ghost use Rattle.turn_register.specs.Places.{place_of};
 ghost use Rattle.turn_register.specs.Turns.{turn_begun, flush_begun, next_turn};
-ghost use Rattle.turn_register.specs.declared.place.TurnPlace.{TurnPlace};
 
 use crate::delays::{is_due, later_of};
 use crate::place::TurnPlace;
@@ -66,7 +65,7 @@ impl RegisterTurn {
         }
     }
 
-    ghost use Rattle.turn_register.specs.Turns.{first_place, turn_of_kind, at_place};
+    ghost use Rattle.turn_register.specs.Turns.{first_place, turn_of_kind, at_place, writing};
 
     // A turn of a kind, at its first place.
     fn of_kind(kind: u32) -> RegisterTurn
@@ -95,6 +94,16 @@ impl RegisterTurn {
         }
     }
 
+    // The same turn at a place where its caller writes this.
+    fn writing(self, place: TurnPlace, word: u64) -> RegisterTurn
+        ensures { result ≡ writing place word self }
+    {
+        RegisterTurn {
+            word,
+            ..self.at_place(place)
+        }
+    }
+
     /// Goes on, after its caller made the access of its place and read this; what was read does not matter where nothing is. A turn that
     /// gives a number is whole only if the number is above that of the last flush.
     pub fn go_on(&mut self, read: u64)
@@ -111,21 +120,31 @@ impl RegisterTurn {
     {
         match TurnPlace::of(self.at) {
             TurnPlace::Whole => self,
-            TurnPlace::Draw => RegisterTurn { cas: read, ..self.at_place(TurnPlace::SeePending) },
+            TurnPlace::Draw => self.after_draw(read),
             TurnPlace::SeePending => self.after_pending(read),
             TurnPlace::SeeFlushed => self.after_flushed(read),
             TurnPlace::Lock => self.at_place(TurnPlace::SeeLocked),
             TurnPlace::SeeLocked => self.after_locked(read),
             TurnPlace::Hide => self.at_place(TurnPlace::DrawFlush),
-            TurnPlace::DrawFlush => RegisterTurn { word: read, ..self.at_place(TurnPlace::Show) },
-            TurnPlace::Show => RegisterTurn { word: 0, ..self.at_place(TurnPlace::Clear) },
+            TurnPlace::DrawFlush => self.writing(TurnPlace::Show, read),
+            TurnPlace::Show => self.writing(TurnPlace::Clear, 0),
             TurnPlace::Clear => self.after_flush(),
             TurnPlace::SetLater => self.at_place(TurnPlace::Unlock),
             TurnPlace::Unlock => self.after_unlock(),
         }
     }
 
-    ghost use Rattle.turn_register.specs.Turns.{after_pending, after_flushed, after_locked, after_flush, after_unlock};
+    ghost use Rattle.turn_register.specs.Turns.{after_draw, after_pending, after_flushed, after_locked, after_flush, after_unlock};
+
+    // A number was drawn.
+    fn after_draw(self, cas: u64) -> RegisterTurn
+        ensures { result ≡ after_draw self cas }
+    {
+        RegisterTurn {
+            cas,
+            ..self.at_place(TurnPlace::SeePending)
+        }
+    }
 
     // A flush that is due is made first.
     fn after_pending(self, pending: u64) -> RegisterTurn
@@ -143,7 +162,10 @@ impl RegisterTurn {
         ensures { result ≡ after_flushed self flushed }
     {
         if self.kind != GIVES || flushed < self.cas {
-            return RegisterTurn { flushed, ..self.at_place(TurnPlace::Whole) };
+            return RegisterTurn {
+                flushed,
+                ..self.at_place(TurnPlace::Whole)
+            };
         }
         if flushed == ALL_HIDDEN {
             self.at_place(TurnPlace::Lock)
@@ -158,7 +180,7 @@ impl RegisterTurn {
     {
         let is_now = self.kind == FLUSHES && self.later == 0;
         if is_now || is_due(pending, self.moment) {
-            RegisterTurn { word: ALL_HIDDEN, ..self.at_place(TurnPlace::Hide) }
+            self.writing(TurnPlace::Hide, ALL_HIDDEN)
         } else {
             self.after_flush()
         }
@@ -169,7 +191,7 @@ impl RegisterTurn {
         ensures { result ≡ after_flush self }
     {
         if self.kind == FLUSHES && self.later != 0 {
-            RegisterTurn { word: self.later, ..self.at_place(TurnPlace::SetLater) }
+            self.writing(TurnPlace::SetLater, self.later)
         } else {
             self.at_place(TurnPlace::Unlock)
         }
