@@ -1,5 +1,5 @@
 -- Turns that a lane is given.
-use Rattle.std.specs.Prelude.{◌≡◌, ℕ, Bool, not, ◌==◌, if◌then◌else◌, List, Option, Some, None, is_some}
+use Rattle.std.specs.Prelude.{◌≡◌, ℕ, not, ◌==◌, if◌then◌else◌, List, Option, Some, None, is_some}
 use Rattle.std.specs.Int.{from_bool}
 use Rattle.service_lane.specs.Upkeep.{due_in}
 use Rattle.memcached_session.specs.declared.done.SessionDone.{SessionDone}
@@ -25,13 +25,9 @@ BeginsTurn wanted now None turn = ⊥
 abbrev pub refusal_of : LaneHome → LastTurn → RegisterTurn → Option ℕ
 refusal_of home last turn = if not (turn.lane == home.number) then Some 2 else (if not (follows last turn) then Some 3 else None)
 
--- what a step is given
-abbrev pub turn_with : ℕ → ℕ → ℕ → ℕ → SessionTurn
-turn_with moment flushed cas refuses = record { moment = moment; flushed = flushed; cas = cas; refuses = refuses; reserved = 0 }
-
 -- what a step is given of a turn
 abbrev pub given_of : RegisterTurn → SessionTurn
-given_of turn = turn_with turn.moment turn.flushed turn.cas 0
+given_of turn = record { moment = turn.moment; flushed = turn.flushed; cas = turn.cas; refuses = 0; reserved = 0 }
 
 -- Nothing was done, and the number says why.
 pub record IsRefused (refusal : ℕ) (session : Session) (room : List ℕ) (old : Option KeptLane) (number : ℕ) (done : SessionDone) (new_session : Session) (new_room : List ℕ) (new : Option KeptLane) : Type 0 where

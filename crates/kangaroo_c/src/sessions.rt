@@ -8,10 +8,10 @@ ghost use Rattle.kangaroo_c.specs.Turning.{StepsAt};
 
 use crate::handle::Handle;
 use crate::keeping::{put_back, take_lane};
-use c_lane::{LaneHome, Seed, SessionWanted, session_wanted};
+use c_lane::{Seed, SessionWanted, session_wanted};
 use memcached_session::{Session, SessionDone, SessionTurn, step};
 use std::alloc::Global;
-use turn_register::{LastTurn, RegisterTurn};
+use turn_register::RegisterTurn;
 
 /// What the next step of a session needs, by the bytes at hand.
 #[unsafe(no_mangle)]
@@ -45,7 +45,14 @@ pub extern "C" fn ks_step(
     ensures most { to.new.answered ≤ 4096 }
     ensures whole { 4096 ≤ length answer.old → (to.new.outcome == 13) ≡ false }
 {
-    *to = step(session, &turn_of(0, 0, 0, refuses), bytes, answer);
+    let turn = SessionTurn {
+        moment: 0,
+        flushed: 0,
+        cas: 0,
+        refuses,
+        reserved: 0,
+    };
+    *to = step(session, &turn, bytes, answer);
 }
 
 /// Takes the next step of a session with the lane of its key, by a turn of the register. Returns whether upkeep is due in the lane after
@@ -71,7 +78,7 @@ pub extern "C" fn ks_lane_step(
     ensures whole { 2448 ≤ length answer.old → (to.new.outcome == 13) ≡ false }
 {
     let mut kept = take_lane(alloc, lane);
-    if let Some(refusal) = refusal_of(&kept.home, &kept.last, turn) {
+    if let Some(refusal) = kept.refusal(turn) {
         put_back(lane, kept);
         *to = SessionDone {
             taken: 0,
@@ -81,40 +88,8 @@ pub extern "C" fn ks_lane_step(
         };
         return refusal;
     }
-    let given = turn_of(turn.moment, turn.flushed, turn.cas, 0);
-    *to = kept
-        .lane
-        .session_step(alloc, session, &given, bytes, answer);
-    kept.last = kept.last.after(turn);
+    *to = kept.step(alloc, session, turn, bytes, answer);
     let is_due = u32::from(kept.lane.is_due());
     put_back(lane, kept);
     is_due
-}
-
-ghost use Rattle.kangaroo_c.specs.Turning.{refusal_of, turn_with};
-
-// Why a turn is refused by a lane, if it is.
-fn refusal_of(home: &LaneHome, last: &LastTurn, turn: &RegisterTurn) -> Option<u32>
-    ensures { result ≡ refusal_of home.now last.now turn.now }
-{
-    if turn.lane != home.number {
-        Some(2)
-    } else if !last.is_followed_by(turn) {
-        Some(3)
-    } else {
-        None
-    }
-}
-
-// What a step is given.
-fn turn_of(moment: u64, flushed: u64, cas: u64, refuses: u32) -> SessionTurn
-    ensures { result ≡ turn_with moment flushed cas refuses }
-{
-    SessionTurn {
-        moment,
-        flushed,
-        cas,
-        refuses,
-        reserved: 0,
-    }
 }
