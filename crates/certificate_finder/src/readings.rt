@@ -61,7 +61,7 @@ fn readings_by(
     requires fit { All IsFit steps.now }
     requires leaved { AreLeaved leaved.puts.now leaved.ends.now leaved.leaves.now }
     requires asked { AreAsked steps.now asked.now }
-    ensures { IfOk result (λ readings. AreReadings steps.now leaved.puts.now readings.items) }
+    ensures { IfOk result (λ readings. AreReadings steps.now leaved.entry.puts.now readings.items) }
 {
     let shape = TreeShape::over(leaved.puts.len());
     let mut tree = vec![in alloc; Best::Empty; 2 * shape.width]?;
@@ -97,9 +97,9 @@ fn reading_of(
     requires begun { IsSplit put_rank leaved.puts.now (rank_of_value hit.now.key hit.now.value hit.now.end) upto }
     requires among { All (AreAmong leaved.puts.now) nodes.old }
     requires tree { IsTree leaved.puts.now leaved.leaves.now shape taken nodes.old }
-    ensures among { All (AreAmong leaved.puts.now) nodes.new }
-    ensures tree { IsTree leaved.puts.now leaved.leaves.now shape upto nodes.new }
-    ensures reading { Says (GivesAt leaved.puts.now hit.now) result }
+    ensures among { All (AreAmong leaved.entry.puts.now) nodes.new }
+    ensures tree { IsTree leaved.entry.puts.now leaved.entry.leaves.now shape upto nodes.new }
+    ensures reading { Says (GivesAt leaved.entry.puts.now hit.now) result }
 {
     add_all(nodes, shape, leaved.puts, leaved.leaves, taken, upto);
     let leaf = ends_below(leaved.ends, value_rank(hit.key, hit.value, hit.start));
