@@ -12,7 +12,6 @@ ghost use Rattle.certificate_finder.specs.Unreading.{AreByEnds, AreUnreadUpto, H
 use crate::by_ends::{ByEnds, last_other};
 use crate::faults::CrossedWrites;
 use crate::groups::Groups;
-use crate::linked_puts::LinkedPuts;
 use crate::numbered_call::{NumberedCall, step_at};
 use crate::numbers::number_at;
 use crate::put::{Put, put_at, value_rank};
@@ -90,14 +89,15 @@ fn look_at(
 fn crossed_reads(
     alloc: Global,
     steps: &[NumberedCall],
-    linked: LinkedPuts<'_>,
+    puts: &[Put],
+    links: &[u32],
     groups: &Groups,
     by_ends: &ByEnds,
     hit: u32,
 ) -> Result<Option<Vec<CrossedWrites>>, AllocError>
     requires fit { All IsFit steps.now }
-    requires puts { ArePuts steps.now linked.puts.now }
-    requires links { AreLinks linked.puts.now linked.links.now }
+    requires puts { ArePuts steps.now puts.now }
+    requires links { AreLinks puts.now links.now }
     requires groups { AreGroups steps.now groups.now }
     requires by_ends { AreByEnds steps.now groups.now.owners.items by_ends.now }
     requires unsure { IsUnsure steps.now hit }
@@ -107,11 +107,11 @@ fn crossed_reads(
     let asked = step_at(steps, hit as usize);
     let least = value_rank(asked.key, asked.value, asked.start);
     let mut reads = Vec::new(alloc);
-    let mut upto = puts_upto(linked.puts, value_rank(asked.key, asked.value, asked.end));
+    let mut upto = puts_upto(puts, value_rank(asked.key, asked.value, asked.end));
     while upto > 0 {
-        let put = put_at(linked.puts, upto - 1);
+        let put = put_at(puts, upto - 1);
         if put.last() < least {
-            upto = number_at(linked.links, upto - 1) as usize;
+            upto = number_at(links, upto - 1) as usize;
         } else {
             if !look_at(&mut reads, steps, groups, by_ends, hit, &put)? {
                 return Ok(None);
@@ -140,15 +140,16 @@ fn first_reads(
 pub(crate) fn unread_among(
     alloc: Global,
     steps: &[NumberedCall],
-    linked: LinkedPuts<'_>,
+    puts: &[Put],
+    links: &[u32],
     groups: &Groups,
     by_ends: &ByEnds,
     hits: &[Ranked],
     most: usize,
 ) -> Result<Vec<UnreadHit>, AllocError>
     requires fit { All IsFit steps.now }
-    requires puts { ArePuts steps.now linked.puts.now }
-    requires links { AreLinks linked.puts.now linked.links.now }
+    requires puts { ArePuts steps.now puts.now }
+    requires links { AreLinks puts.now links.now }
     requires groups { AreGroups steps.now groups.now }
     requires by_ends { AreByEnds steps.now groups.now.owners.items by_ends.now }
     requires unsure { All (IsUnsure steps.now) (positions_in hits.now) }
@@ -158,7 +159,7 @@ pub(crate) fn unread_among(
     let mut found = Vec::new(alloc);
     for index in 0..hits.len() {
         let hit = ranked_at(hits, index).position;
-        let listed = crossed_reads(alloc, steps, linked, groups, by_ends, hit)?;
+        let listed = crossed_reads(alloc, steps, puts, links, groups, by_ends, hit)?;
         if let Some(reads) = listed {
             let reads = first_reads(alloc, reads.as_slice(), most)?;
             found.push(UnreadHit { hit, reads })?;
@@ -171,14 +172,15 @@ pub(crate) fn unread_among(
 pub(crate) fn first_unread(
     alloc: Global,
     steps: &[NumberedCall],
-    linked: LinkedPuts<'_>,
+    puts: &[Put],
+    links: &[u32],
     groups: &Groups,
     by_ends: &ByEnds,
     hits: &[Ranked],
 ) -> Result<Option<UnreadHit>, AllocError>
     requires fit { All IsFit steps.now }
-    requires puts { ArePuts steps.now linked.puts.now }
-    requires links { AreLinks linked.puts.now linked.links.now }
+    requires puts { ArePuts steps.now puts.now }
+    requires links { AreLinks puts.now links.now }
     requires groups { AreGroups steps.now groups.now }
     requires by_ends { AreByEnds steps.now groups.now.owners.items by_ends.now }
     requires unsure { All (IsUnsure steps.now) (positions_in hits.now) }
@@ -188,7 +190,7 @@ pub(crate) fn first_unread(
 {
     for index in 0..hits.len() {
         let hit = ranked_at(hits, index).position;
-        let listed = crossed_reads(alloc, steps, linked, groups, by_ends, hit)?;
+        let listed = crossed_reads(alloc, steps, puts, links, groups, by_ends, hit)?;
         if let Some(reads) = listed {
             return Ok(Some(UnreadHit { hit, reads }));
         }
