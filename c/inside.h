@@ -121,6 +121,9 @@ void init_lock(pthread_mutex_t *lock);
 /* Hands a lane that is due to the threads; the lane's lock is held. */
 void hand_over(kangaroo_cache *cache, uint32_t number);
 
+/* kangaroo.c: says on standard error which fault of the C part was met, and ends the program. */
+_Noreturn void end_by_fault(const char *fault);
+
 /* random.c: random bytes of the system. */
 outcome draw_random(void *to, size_t bytes);
 

@@ -1,6 +1,8 @@
 /* The calls on an open cache: a lock round each lane, and what a C interface has to refuse. What a lane answers is the
  * proved part's (lane.h). */
 #include "inside.h"
+#include <stdio.h>
+#include <stdlib.h>
 #include <string.h>
 
 /* A key as the lane gets it: copied, so that it may lie in the buffer, or change, without harm. */
@@ -68,9 +70,16 @@ static hold hold_lane(kangaroo_cache *cache, uint32_t number) {
     return of;
 }
 
-/* Counts the answers that a lane does not count itself, and lets go of it. */
+void end_by_fault(const char *fault) {
+    fprintf(stderr, "libkangaroo: %s; the program ends, since it may not go on\n", fault);
+    abort();
+}
+
+/* Counts the answers that a lane does not count itself, and lets go of it. A lane that has its calls by mistake is never gone on
+ * with: a key that is in two lanes has two values. */
 static kangaroo_status release(hold *of, int32_t answer) {
     answer_counts *counts = &of->lane->answers;
+    if (answer == KL_OTHER_LANE) end_by_fault("a call was made on another lane than its key's");
     counts->short_buffers += answer == KANGAROO_SHORT_BUFFER;
     counts->put_too_large += answer == KANGAROO_TOO_LARGE;
     counts->put_no_memory += answer == KANGAROO_NO_MEMORY;
@@ -175,7 +184,7 @@ static kangaroo_status get_and_lease_held(kangaroo_cache *cache, const key_copy 
     int32_t answer =
         kl_get(&held.lane->lane, key->bytes, key->length, call->moment, call->into, call->into_length, hit);
     int32_t leased = kl_lease(&held.lane->lane, key->bytes, key->length, &writes);
-    kangaroo_status status = release(&held, answer);
+    kangaroo_status status = release(&held, leased == KL_OTHER_LANE ? leased : answer);
     if (leased == KANGAROO_OK) *lease = lease_of(cache, key, writes);
     return status;
 }

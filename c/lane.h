@@ -45,7 +45,11 @@ typedef enum kl_step_did {
     KL_MEMORY_WAS_REFUSED = 3 /* to a move */
 } kl_step_did;
 
-/* A lane, or a place without one: {NULL}. */
+/* What a call on a key answers if the key is another lane's: a fault of C. Nothing was done, and nothing that the call writes was
+ * written. It is no kangaroo_status, and no caller of the library sees it. */
+enum { KL_OTHER_LANE = -1000 };
+
+/* A lane, or a place without one: {NULL}. It knows its number, and by what keys are placed among the lanes. */
 typedef struct kl_lane {
     void *at;
 } kl_lane;
@@ -117,7 +121,8 @@ typedef struct kl_pages {
 } kl_pages;
 
 /* Opens an empty lane over pages, which are the lane's until kl_close: nobody else reads or writes them. `number` is
- * the lane's, for its own random words. *to must be without a lane. KANGAROO_OK; or KANGAROO_WRONG_OPTIONS (the shape,
+ * the lane's among those of the shape: by it and the seed it has random words of its own, and knows its keys, as kl_place_of
+ * places them. *to must be without a lane. KANGAROO_OK; or KANGAROO_WRONG_OPTIONS (the shape,
  * or too few pages), or KANGAROO_NO_MEMORY: then *to is as it was, and the pages are the caller's. */
 int32_t kl_open(const kl_shape *shape, const kl_seed *seed, uint32_t number, kl_pages pages, kl_lane *to);
 
@@ -126,7 +131,8 @@ void kl_close(kl_lane *lane);
 
 /* KANGAROO_OK: the value is at the front of `into`, and *hit is filled. KANGAROO_SHORT_BUFFER: *hit is filled, and
  * nothing is copied. KANGAROO_ABSENT, KANGAROO_EXPIRED, KANGAROO_UNREADABLE or KANGAROO_DAMAGED (the misses), or
- * KANGAROO_WRONG_KEY: *hit is all zeros. */
+ * KANGAROO_WRONG_KEY: *hit is all zeros. A key of another lane is
+ * KL_OTHER_LANE, of each call up to kl_remove. */
 int32_t kl_get(kl_lane *lane, const uint8_t *key, size_t key_length, uint64_t moment, uint8_t *into, size_t into_length,
                kl_hit *hit);
 

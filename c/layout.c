@@ -92,13 +92,17 @@ FIELD(ks_session, seconds, 16, 4);
 FIELD(ks_session, with_cas, 20, 4);
 WHOLE(ks_session, 24, 8);
 
-/* SessionTurn, memcached_session/src/turn.rt */
-FIELD(ks_turn, moment, 0, 8);
-FIELD(ks_turn, flushed, 8, 8);
-FIELD(ks_turn, cas, 16, 8);
-FIELD(ks_turn, refuses, 24, 4);
-FIELD(ks_turn, reserved, 28, 4);
-WHOLE(ks_turn, 32, 8);
+/* RegisterTurn, turn_register/src/turn.rt */
+FIELD(ks_turn, at, 0, 4);
+FIELD(ks_turn, kind, 4, 4);
+FIELD(ks_turn, lane, 8, 4);
+FIELD(ks_turn, reserved, 12, 4);
+FIELD(ks_turn, word, 16, 8);
+FIELD(ks_turn, moment, 24, 8);
+FIELD(ks_turn, later, 32, 8);
+FIELD(ks_turn, cas, 40, 8);
+FIELD(ks_turn, flushed, 48, 8);
+WHOLE(ks_turn, 56, 8);
 
 /* SessionDone, memcached_session/src/done.rt */
 FIELD(ks_done, taken, 0, 8);

@@ -3,8 +3,9 @@
  * A session is one client's stream of requests. No socket is here. C keeps the bytes that are not taken yet, draws numbers, has
  * the locks, and sends what is answered; it parses nothing, and has no state of the protocol.
  *
- * A turn of a client, as long as there are bytes: ks_want says what the next step needs; the server has it ready; ks_step or
- * ks_lane_step takes the bytes of one request, or of one key of a get, and writes its answer. As in lane.h, a pointer to bytes is
+ * As long as a client has bytes: ks_want says what the next step needs; the server has it ready; ks_step or ks_lane_step takes the
+ * bytes of one request, or of one key of a get, and writes its answer. A step with a lane is given a turn, which a register makes: it
+ * says which access to the words of all threads comes next, and the server makes that access. A flush is made so too. As in lane.h, a pointer to bytes is
  * never NULL, and no two things that are handed to one call overlap where one of them is written. layout.c compares the structs. */
 #ifndef KANGAROO_SESSION_H
 #define KANGAROO_SESSION_H
@@ -27,10 +28,10 @@ typedef struct ks_session {
 typedef enum ks_wants {
     KS_MORE = 0,     /* more bytes: a step would take nothing */
     KS_STEP = 1,     /* nothing: ks_step */
-    KS_LANE = 2,     /* the lane of ks_wanted.place: ks_lane_step, in one hold of its lock. argument is 1 if an item may get a number,
-                      * ks_turn.cas, which is drawn in that hold; 0 if the step does not look at it */
-    KS_FLUSH = 3,    /* that all items be flushed after argument seconds, 0 for at once; more than 30 days are seconds since 1970.
-                      * Then ks_step, whose answer is OK */
+    KS_LANE = 2,     /* the lane of ks_wanted.place: ks_begin_turn, ks_go_on and ks_lane_step, in one hold of its lock. argument is 1 if an
+                      * item may get a number, else 0 */
+    KS_FLUSH = 3,    /* that all items be flushed after argument seconds, 0 for at once; more than 30 days are seconds since 1970:
+                      * ks_begin_flush and ks_go_on. Then ks_step, whose answer is OK */
     KS_STATS = 4,    /* lines of stats: argument is one of ks_stats. The server writes its lines `STAT name value`; then ks_step,
                       * whose answer ends them */
     KS_VERBOSE = 5,  /* that the server says more or less: argument is the level. Then ks_step */
@@ -59,14 +60,43 @@ typedef struct ks_wanted {
     kl_place place;    /* KS_LANE: the place of the key among the lanes; else zeros */
 } ks_wanted;
 
-/* What the server gives a step. */
+/* What the server does next for a turn, or for a flush, with one of three words that all threads share, or with a lock. Each word is read
+ * or written by one access that is sequentially consistent, and what was read is handed to ks_go_on; else 0. */
+typedef enum ks_access {
+    KS_WHOLE = 0,       /* nothing: it is whole */
+    KS_DRAW = 1,        /* the next number: reads it, and adds 1 to it */
+    KS_SEE_PENDING = 2, /* the moment of a flush that is to come, 0 if none is: reads it */
+    KS_SEE_FLUSHED = 3, /* the number of the last flush, 0 before the first: reads it */
+    KS_LOCK = 4,        /* takes the lock of flushes; that of a lane may be held, and none is taken after it */
+    KS_SEE_LOCKED = 5,  /* as KS_SEE_PENDING */
+    KS_HIDE = 6,        /* the number of the last flush: writes ks_turn.word */
+    KS_DRAW_FLUSH = 7,  /* as KS_DRAW */
+    KS_SHOW = 8,        /* as KS_HIDE */
+    KS_CLEAR = 9,       /* the moment of a flush that is to come: writes ks_turn.word */
+    KS_SET_LATER = 10,  /* as KS_CLEAR */
+    KS_UNLOCK = 11      /* gives the lock of flushes back */
+} ks_access;
+
+/* A turn of a step, or a flush. */
 typedef struct ks_turn {
-    uint64_t moment;   /* seconds since 1970 */
-    uint64_t flushed;  /* the number that the last flush drew, 0 before the first: an item with a lower one is not live */
-    uint64_t cas;      /* KS_LANE with argument 1: a number that no earlier item had, drawn in the hold; the item's if one is stored */
-    uint32_t refuses;  /* 1: the server does not do what KS_FLUSH or KS_SHUTDOWN asks for, and the answer says so; else 0 */
+    uint32_t at;       /* one of ks_access */
+    uint32_t kind;     /* 0: an item gets no number, 1: one may, 2: it is a flush */
+    uint32_t lane;     /* the number of the key's lane */
     uint32_t reserved; /* 0 */
+    uint64_t word;     /* what is written next, if something is */
+    uint64_t moment;   /* seconds since 1970 */
+    uint64_t later;    /* of a flush: its moment, 0 for at once */
+    uint64_t cas;      /* a number that no other item had: the item's, if one is stored */
+    uint64_t flushed;  /* the number of the last flush: an item with a lower one is not live */
 } ks_turn;
+
+/* What ks_lane_step says. */
+typedef enum ks_stepped {
+    KS_NOT_DUE = 0,
+    KS_IS_DUE = 1,     /* upkeep of the lane is due */
+    KS_OTHER_LANE = 2, /* the turn was begun for another lane, and nothing was done: a fault of C */
+    KS_WRONG_TURN = 3  /* the turn is not whole, or may not follow the lane's last one, and nothing was done: a fault of C */
+} ks_stepped;
 
 /* What a step was, for counters. */
 typedef enum ks_command {
@@ -121,11 +151,26 @@ typedef struct ks_done {
  * `lanes`, 1 at least, are those of the cache, as of kl_place_of. */
 void ks_want(const ks_session *session, const kl_seed *seed, uint32_t lanes, const uint8_t *bytes, size_t length, ks_wanted *to);
 
-/* A step that needs no lane. If ks_want says KS_LANE of these bytes, it does nothing: taken is 0. */
-void ks_step(ks_session *session, const ks_turn *turn, const uint8_t *bytes, size_t length, uint8_t *answer, size_t room, ks_done *to);
+/* The first number of all, by microseconds since 1970: it is above those that were drawn before a restart, unless more than 256 were in
+ * each microsecond, or the clock was set back. */
+uint64_t ks_first_number(uint64_t microseconds);
 
-/* A step with the lane of its key, in one hold of the lane's lock. If ks_want does not say KS_LANE of these bytes, it does nothing:
- * taken is 0. Returns 1 if upkeep of the lane is due after it, else 0. */
+/* Begins a turn on a lane, in the hold of its lock in which it is given to the step. Its moment is `now`, or that of the lane's last turn if
+ * that is later. */
+void ks_begin_turn(kl_lane *lane, const ks_wanted *wanted, uint64_t now, ks_turn *to);
+
+/* Begins a flush after a delay, as KS_FLUSH has it. One that is to come takes the place of another. */
+void ks_begin_flush(uint32_t delay, uint64_t now, ks_turn *to);
+
+/* Goes on with a turn or a flush, after the access that its `at` names, by which this was read. */
+void ks_go_on(ks_turn *turn, uint64_t read);
+
+/* A step that needs no lane. If ks_want says KS_LANE of these bytes, it does nothing: taken is 0. `refuses` is 1 if the server does not do
+ * what KS_FLUSH or KS_SHUTDOWN asks for, and the answer says so; else 0. */
+void ks_step(ks_session *session, uint32_t refuses, const uint8_t *bytes, size_t length, uint8_t *answer, size_t room, ks_done *to);
+
+/* A step with the lane of its key, in one hold of the lane's lock, by a turn that was begun for what ks_want said of these very bytes. If
+ * ks_want does not say KS_LANE of these bytes, it does nothing: taken is 0. One of ks_stepped. */
 uint32_t ks_lane_step(ks_session *session, kl_lane *lane, const ks_turn *turn, const uint8_t *bytes, size_t length,
                       uint8_t *answer, size_t room, ks_done *to);
 

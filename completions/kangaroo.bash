@@ -15,7 +15,8 @@ _kangaroo() {
         esac
     done
     case $command:$before in
-        check:--picture | judge:--picture | judge:--trace | judge:--junit | run:--trace) wanted=files ;;
+        check:--picture | judge:--picture | judge:--trace | judge:--junit | judge:--html |\
+            run:--trace) wanted=files ;;
         run:--device | serve-load:--device) wanted=folders ;;
         judge:--at-least | judge:--skew | judge:--keys | judge:--window | show:--key |\
             run:--lanes | run:--sets | run:--memory | run:--segments | run:--segment-pages |\
@@ -32,7 +33,7 @@ _kangaroo() {
             '') COMPREPLY=($(compgen -W '--unproved -h --help -V --version' -- "$word")) ;;
             script) COMPREPLY=($(compgen -W '-h --help' -- "$word")) ;;
             check) COMPREPLY=($(compgen -W '--explain --json --picture -h --help' -- "$word")) ;;
-            judge) COMPREPLY=($(compgen -W '--explain --json --picture --all --trace --junit --at-least --skew --warm --keys --skip-bad --window -h --help' -- "$word")) ;;
+            judge) COMPREPLY=($(compgen -W '--explain --json --picture --all --trace --junit --html --at-least --skew --warm --keys --skip-bad --window -h --help' -- "$word")) ;;
             show) COMPREPLY=($(compgen -W '--key -h --help' -- "$word")) ;;
             run) COMPREPLY=($(compgen -W '--device --trace --json -h --help --lanes --sets --memory --segments --segment-pages --entries --threshold --admit --callers --operations --keys --value-bytes --gets --removes --workers --seed --ttl' -- "$word")) ;;
             serve-load) COMPREPLY=($(compgen -W '--device --json -h --help --lanes --sets --memory --segments --segment-pages --entries --threshold --admit --shards --leases --bring-back --size --memory-bytes --callers --operations --keys --value-bytes --gets --removes --workers --seed --ttl --seconds --zipf' -- "$word")) ;;

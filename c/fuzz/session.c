@@ -16,7 +16,7 @@ typedef struct client {
     ks_session session;
     kl_lane lanes[LANES];
     uint8_t *pages[LANES];
-    uint64_t cas, flushed, lane_steps;
+    uint64_t next, flushed, pending, lane_steps;
     bytes unread, answers;
     bool is_over;
 } client;
@@ -36,7 +36,7 @@ static void append(bytes *to, const uint8_t *from, size_t length) {
 }
 
 static void open_client(client *to, const ks_session *session) {
-    *to = (client){.session = *session, .cas = 1};
+    *to = (client){.session = *session, .next = 1};
     for (uint32_t i = 0; i < LANES; i++) {
         to->pages[i] = calloc(PAGES, PAGE_BYTES);
         expect(to->pages[i] != NULL, "memory");
@@ -56,26 +56,46 @@ static void close_client(client *of) {
 
 /* ------------------------------------------------------------------------------------------------------------- steps */
 
-static void step_in_lane(client *of, const ks_wanted *wanted, ks_turn *turn, uint8_t *answer, ks_done *done) {
-    uint32_t is_due;
+static uint64_t make_access(client *of, const ks_turn *by) {
+    switch (by->at) {
+    case KS_DRAW: case KS_DRAW_FLUSH: return of->next++;
+    case KS_SEE_FLUSHED: return of->flushed;
+    case KS_SEE_PENDING: case KS_SEE_LOCKED: return of->pending;
+    case KS_HIDE: case KS_SHOW: of->flushed = by->word; return 0;
+    case KS_CLEAR: case KS_SET_LATER: of->pending = by->word; return 0;
+    default: return 0;
+    }
+}
+
+static void make_whole(client *of, ks_turn *it) {
+    while (it->at != KS_WHOLE) ks_go_on(it, make_access(of, it));
+}
+
+static void step_in_lane(client *of, const ks_wanted *wanted, uint64_t now, uint8_t *answer, ks_done *done) {
     kl_lane *lane = &of->lanes[wanted->place.lane];
     kl_step upkeep;
+    ks_turn turn;
     expect(wanted->place.lane < LANES, "a lane that there is");
-    if (wanted->argument != 0) turn->cas = of->cas++;
     of->lane_steps++;
-    is_due = ks_lane_step(&of->session, lane, turn, of->unread.at, of->unread.length, answer, KS_MOST_ANSWER, done);
-    if (is_due != 0) kl_upkeep_step(lane, &upkeep);
+    ks_begin_turn(lane, wanted, now, &turn);
+    make_whole(of, &turn);
+    uint32_t stepped = ks_lane_step(&of->session, lane, &turn, of->unread.at, of->unread.length, answer, KS_MOST_ANSWER, done);
+    expect(stepped <= KS_IS_DUE, "a lane takes the turn of its key");
+    if (stepped == KS_IS_DUE) kl_upkeep_step(lane, &upkeep);
 }
 
 static void do_wanted(client *of, const ks_wanted *wanted, uint8_t *answer, ks_done *done) {
-    ks_turn turn = {.moment = 1000 + of->lane_steps / 16, .flushed = of->flushed};
+    uint64_t now = 1000 + of->lane_steps / 16;
+    ks_turn flush;
     if (wanted->wants == KS_LANE) {
-        step_in_lane(of, wanted, &turn, answer, done);
+        step_in_lane(of, wanted, now, answer, done);
         return;
     }
-    if (wanted->wants == KS_FLUSH && wanted->argument == 0) of->flushed = of->cas++;
-    turn.refuses = wanted->wants == KS_SHUTDOWN;
-    ks_step(&of->session, &turn, of->unread.at, of->unread.length, answer, KS_MOST_ANSWER, done);
+    if (wanted->wants == KS_FLUSH) {
+        ks_begin_flush(wanted->argument, now, &flush);
+        make_whole(of, &flush);
+    }
+    ks_step(&of->session, wanted->wants == KS_SHUTDOWN, of->unread.at, of->unread.length, answer, KS_MOST_ANSWER, done);
 }
 
 static void make_step(client *of, const ks_wanted *wanted) {

@@ -123,11 +123,12 @@ void free_buffer(buffer *of);
 
 /* ---------------------------------------------------------------------------------------------------------- steps.c */
 
-/* Numbers of items. An item is flushed if its number is below the one of the last flush. */
+/* Numbers of items. An item is flushed if its number is below the one of the last flush. In which order these words are read and
+ * written is decided behind session.h (ks_access). */
 typedef struct numbers {
     alignas(LANE_ALIGNMENT) atomic_uint_least64_t next;
     alignas(LANE_ALIGNMENT) atomic_uint_least64_t flushed;
-    atomic_uint_least64_t flush_moment; /* of a flush that is to come; 0: none does */
+    atomic_uint_least64_t pending; /* the moment of a flush that is to come; 0: none does */
     pthread_mutex_t flush_lock;
 } numbers;
 

@@ -1,12 +1,12 @@
-/* One step of a client's session, in a hold of its key's lane; numbers of items; and flush_all. What a step takes, does and
- * answers is decided behind session.h. */
+/* One step of a client's session, in a hold of its key's lane; and the words that number items and flush them. What a step takes,
+ * does and answers, and in which order those words are read and written, is decided behind session.h. */
 #define _GNU_SOURCE
 #include "server.h"
 #include <signal.h>
 #include <time.h>
 #include <unistd.h>
 
-enum { THIRTY_DAYS = 60 * 60 * 24 * 30, NANOSECONDS = 1000000000 };
+enum { NANOSECONDS = 1000000000 };
 
 /* ------------------------------------------------------------------------------------------------------------ numbers */
 
@@ -29,51 +29,32 @@ uint64_t moment_now(void) {
     return (uint64_t)((wall_before_boot + nanoseconds_of(CLOCK_BOOTTIME)) / NANOSECONDS);
 }
 
-/* Numbers begin at the time, in 256ths of a microsecond: so no item has a number that an item had before a restart, unless
- * more than 256 were drawn in each microsecond, or the clock was set back. */
 void start_numbers(numbers *of) {
     struct timespec now;
     clock_gettime(CLOCK_REALTIME, &now);
-    uint64_t first = ((uint64_t)now.tv_sec * 1000000 + (uint64_t)now.tv_nsec / 1000) << 8;
-    atomic_init(&of->next, first);
+    atomic_init(&of->next, ks_first_number((uint64_t)now.tv_sec * 1000000 + (uint64_t)now.tv_nsec / 1000));
     atomic_init(&of->flushed, 0);
-    atomic_init(&of->flush_moment, 0);
+    atomic_init(&of->pending, 0);
     init_lock(&of->flush_lock);
 }
 
-/* Flushes all items of before. While the number is drawn, every item counts as flushed. Otherwise an item with a greater
- * number could be stored and seen, and after that an old item of another key could still be hit: then no order of the
- * flush, the store and the hit would exist. A miss is always right. */
-static void flush_held(numbers *of) {
-    atomic_store(&of->flushed, UINT64_MAX);
-    uint64_t number = atomic_fetch_add(&of->next, 1);
-    atomic_store(&of->flushed, number);
-}
-
-/* Flushes now, or sets when. The last flush_all counts: one that is to come is given up. */
-static void flush(numbers *of, uint64_t moment, uint64_t now) {
-    pthread_mutex_lock(&of->flush_lock);
-    atomic_store(&of->flush_moment, moment > now ? moment : 0);
-    if (moment <= now) flush_held(of);
-    pthread_mutex_unlock(&of->flush_lock);
-}
-
-/* Makes the flush whose moment has come. It is made by the first command at or after that moment. */
-static void settle_flush(numbers *of, uint64_t now) {
-    uint64_t moment = atomic_load_explicit(&of->flush_moment, memory_order_relaxed);
-    if (moment == 0 || now < moment) return;
-    pthread_mutex_lock(&of->flush_lock);
-    moment = atomic_load(&of->flush_moment);
-    if (moment != 0 && now >= moment) {
-        flush_held(of);
-        atomic_store(&of->flush_moment, 0);
+/* Makes the access that a turn asks for next. Gives what was read, or 0. */
+static uint64_t make_access(numbers *of, const ks_turn *by) {
+    switch (by->at) {
+    case KS_DRAW: case KS_DRAW_FLUSH: return atomic_fetch_add(&of->next, 1);
+    case KS_SEE_FLUSHED: return atomic_load(&of->flushed);
+    case KS_SEE_PENDING: case KS_SEE_LOCKED: return atomic_load(&of->pending);
+    case KS_HIDE: case KS_SHOW: atomic_store(&of->flushed, by->word); return 0;
+    case KS_CLEAR: case KS_SET_LATER: atomic_store(&of->pending, by->word); return 0;
+    case KS_LOCK: pthread_mutex_lock(&of->flush_lock); return 0;
+    case KS_UNLOCK: pthread_mutex_unlock(&of->flush_lock); return 0;
+    default: return 0;
     }
-    pthread_mutex_unlock(&of->flush_lock);
 }
 
-/* Up to 30 days count from now; more are seconds since 1970. */
-static uint64_t moment_of_delay(uint64_t delay, uint64_t now) {
-    return delay <= THIRTY_DAYS ? now + delay : delay;
+/* Makes a turn, or a flush, whole. */
+static void make_whole(numbers *of, ks_turn *it) {
+    while (it->at != KS_WHOLE) ks_go_on(it, make_access(of, it));
 }
 
 /* -------------------------------------------------------------------------------------------------------------- steps */
@@ -85,7 +66,7 @@ typedef struct step {
     const uint8_t *bytes;
     size_t length;
     ks_wanted wanted;
-    ks_turn turn;
+    uint32_t refuses; /* 1: what is wanted is not done, and the answer says so */
     ks_done done;
     bool is_part; /* it was a part of an answer, and its request is still to be taken */
 } step;
@@ -96,30 +77,40 @@ static uint8_t *place_of_answer(const step *it) {
 }
 
 static void step_without_lane(step *it) {
-    ks_step(&it->of->session, &it->turn, it->bytes, it->length, place_of_answer(it), KS_MOST_ANSWER, &it->done);
+    ks_step(&it->of->session, it->refuses, it->bytes, it->length, place_of_answer(it), KS_MOST_ANSWER, &it->done);
 }
 
-/* A number is drawn only where an item may get it, so gets share no counter. It is drawn before the number of the last flush is
- * read: an item that a flush in between has flushed is then seen as flushed, and what is stored over it is so of nothing. The
- * other way, a number that grew could come of a flushed item and yet outlive the flush. */
+/* Ends the server if a lane refused a step. */
+static void end_if_refused(uint32_t stepped) {
+    if (stepped == KS_OTHER_LANE) end_by_fault("a step was made on another lane than its key's");
+    if (stepped == KS_WRONG_TURN) end_by_fault("a step was made by a turn that may not follow the last one of its lane");
+}
+
+/* The turn is made in the hold of the lane, so its number is above those of the lane's items, and what it sees of flushes is not of
+ * before another step. */
 static void step_in_lane(step *it) {
     kangaroo_cache *cache = it->by->of->cache;
-    numbers *drawn = &it->by->of->numbers;
     guarded_lane *lane = &cache->lanes[it->wanted.place.lane];
+    uint64_t now = moment_now();
     uint32_t is_due;
+    ks_turn turn;
     pthread_mutex_lock(&lane->lock);
-    if (it->wanted.argument != 0) it->turn.cas = atomic_fetch_add(&drawn->next, 1);
-    it->turn.flushed = atomic_load(&drawn->flushed);
-    is_due = ks_lane_step(&it->of->session, &lane->lane, &it->turn, it->bytes, it->length, place_of_answer(it),
-                          KS_MOST_ANSWER, &it->done);
+    ks_begin_turn(&lane->lane, &it->wanted, now, &turn);
+    make_whole(&it->by->of->numbers, &turn);
+    is_due = ks_lane_step(&it->of->session, &lane->lane, &turn, it->bytes, it->length, place_of_answer(it), KS_MOST_ANSWER,
+                          &it->done);
+    end_if_refused(is_due);
     if (is_due != 0) hand_over(cache, it->wanted.place.lane);
     pthread_mutex_unlock(&lane->lock);
 }
 
 static void step_with_flush(step *it) {
-    uint64_t now = it->turn.moment;
-    it->turn.refuses = it->by->of->settings.no_flush != 0;
-    if (it->turn.refuses == 0) flush(&it->by->of->numbers, moment_of_delay(it->wanted.argument, now), now);
+    ks_turn flush;
+    it->refuses = it->by->of->settings.no_flush != 0;
+    if (it->refuses == 0) {
+        ks_begin_flush(it->wanted.argument, moment_now(), &flush);
+        make_whole(&it->by->of->numbers, &flush);
+    }
     step_without_lane(it);
 }
 
@@ -135,9 +126,9 @@ static bool step_with_stats(step *it) {
 
 /* Main reads the signal from its descriptor: no thread has it open. */
 static void step_with_shutdown(step *it) {
-    it->turn.refuses = it->by->of->settings.may_shut_down == 0;
+    it->refuses = it->by->of->settings.may_shut_down == 0;
     step_without_lane(it);
-    if (it->turn.refuses == 0) kill(getpid(), SIGTERM);
+    if (it->refuses == 0) kill(getpid(), SIGTERM);
 }
 
 /* Does what is wanted, and makes the step. False: the client is to be closed. */
@@ -168,8 +159,6 @@ step_end make_step(worker *by, conn *of, const uint8_t *bytes, size_t length, si
     ks_want(&of->session, &cache->seed, cache->lane_count, bytes, length, &it.wanted);
     if (it.wanted.wants == KS_MORE) return STEP_NEEDS_MORE;
     if (it.wanted.wants == KS_CLOSE) return STEP_ENDS;
-    it.turn.moment = moment_now();
-    settle_flush(&by->of->numbers, it.turn.moment);
     if (!do_wanted(&it)) return STEP_ENDS;
     if (it.is_part) return by->looks_left == 0 ? STEP_ENDS_TURN : STEP_WENT_ON;
     if (verbosity() >= TELL_ALL) tell_step(&it);

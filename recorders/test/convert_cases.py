@@ -91,45 +91,58 @@ GOOD = (
      b"setup 0 0 put a -\n0 1 2 put a x\n0 3 4 hit a x\n0 3 4 put a xy\n0 5 6 hit a xy\nsetup 0 0 put b%20c -\n0 7 - put b%20c " + LONG_HASH + b"\n"),
 )
 
+# rows below HEAD that are refused: the name, the rows with a slash between two, the place, and the words
+BAD_ROWS = """
+a field too few | 1,2,put,a | 2:10 | the row has 4 fields, and the header 5: put a field that has the delimiter in quotes
+a field too many | 1,2,put,a,x,y | 2:13 | the row has 6 fields, and the header 5
+a quote within a field | 1,2,put,a"b,x | 2:10 | a quote within a field that has none around it
+text after a quote | 1,2,put,"a"b,x | 2:12 | after a closing quote the field goes on
+text after a quote, lines later | 1,2,put,"a/b"c,x | 3:3 | after a closing quote the field goes on
+a quote that is never closed | 1,2,put,"a,x/3,4,put,a,x | 2:9 | the quote that begins here is never closed
+a bad number | 1,2,put,a,x/3,4x,put,a,x | 3:3 | end is no number of ns: "4x"; give a number of ns
+no number at all | ,2,put,a,x | 2:1 | there is no start
+a number below 0 | -1,2,put,a,x | 2:1 | it must not be below 0
+digits of another script | ١,2,put,a,x | 2:1 | start is no number of ns
+a number above 2^63 | 9223372036854775808,2,put,a,x | 2:1 | start is above 2^63 - 1 nanoseconds
+a date where a number stands | 2026-12-01T11:55:25Z,2,put,a,x | 2:1 | give --unit rfc3339
+an end before its start | 5,4,put,a,x | 2:3 | the end "4" is before the start "5"
+an unknown operation | 1,2,frobnicate,a,x | 2:5 | the operation "frobnicate" is unknown: say what it is by --map frobnicate=get
+an operation that can't be judged | 1,2,INCR,a,x | 2:5 | leave out its keys by --map incr=leave
+an operation of many keys | 1,2,mget,a,x | 2:5 | write a row for each key
+an empty operation | 1,2,,a,x | 2:5 | the operation "" is unknown
+an empty key | 1,2,put,,x | 2:9 | a key has 1 to 255 bytes, and this one has 0
+"""
+
+
+def rows_refused():
+    """Returns the cases of BAD_ROWS."""
+    for line in BAD_ROWS.strip().split("\n"):
+        name, rows, place, what = line.split(" | ")
+        yield name, CSV, HEAD + rows.replace("/", "\n").encode() + b"\n", (place, what)
+
+
 BAD = (
+    *rows_refused(),
     ("nothing", CSV, b"", ("1:1", "the input is empty: give it a header")),
     ("a header alone", CSV, HEAD, ("1:1", "the input has no call")),
     ("no column", CSV, b"s,e,o,key,v\n1,2,put,a,x\n", ("1:1", "there is no column k: the header has s, e, o, key, v")),
     ("two columns", CSV, b"s,e,o,k,v,k\n", ("1:1", "two columns are named k")),
-    ("a field too few", CSV, HEAD + b"1,2,put,a\n", ("2:10", "the row has 4 fields, and the header 5: put a field that has the delimiter in quotes")),
-    ("a field too many", CSV, HEAD + b"1,2,put,a,x,y\n", ("2:13", "the row has 6 fields, and the header 5")),
     ("rows of two widths", NUMBERED, b"1,2,put,a,x\n1,2,put,a\n", ("2:10", "the row has 4 fields, and the first row 5")),
     ("a column past the row", NUMBERED, b"1,2,put,a\n", ("1:1", "the row has 4 fields, and a column 5 is named")),
     ("a column by its name without a header", "csv --no-header --start s --end 2 --op 3 --key 4 --value 4", b"1,2,put,a\n", ("1:1", "with --no-header a column is a number from 1, not s")),
-    ("a quote within a field", CSV, HEAD + b'1,2,put,a"b,x\n', ("2:10", "a quote within a field that has none around it")),
-    ("text after a quote", CSV, HEAD + b'1,2,put,"a"b,x\n', ("2:12", "after a closing quote the field goes on")),
-    ("text after a quote, lines later", CSV, HEAD + b'1,2,put,"a\nb"c,x\n', ("3:3", "after a closing quote the field goes on")),
-    ("a quote that is never closed", CSV, HEAD + b'1,2,put,"a,x\n3,4,put,a,x\n', ("2:9", "the quote that begins here is never closed")),
-    ("a bad number", CSV, HEAD + b"1,2,put,a,x\n3,4x,put,a,x\n", ("3:3", 'end is no number of ns: "4x"; give a number of ns')),
-    ("no number at all", CSV, HEAD + b",2,put,a,x\n", ("2:1", "there is no start")),
-    ("a number below 0", CSV, HEAD + b"-1,2,put,a,x\n", ("2:1", "it must not be below 0")),
     ("an exponent", CSV + " --unit s", HEAD + b"1.7e9,2,put,a,x\n", ("2:1", "one with an exponent has lost digits")),
-    ("digits of another script", CSV, HEAD + "١,2,put,a,x\n".encode(), ("2:1", "start is no number of ns")),
-    ("a number above 2^63", CSV, HEAD + b"9223372036854775808,2,put,a,x\n", ("2:1", "start is above 2^63 - 1 nanoseconds")),
     ("a fraction above 2^63", CSV + " --unit s", HEAD + b"1,99999999999.5,put,a,x\n", ("2:3", "end is above 2^63 - 1 nanoseconds")),
     ("a time taken above 2^63", "csv --start s --took e --op o --key k --value v --unit s", HEAD + b"1,99999999999,put,a,x\n", ("2:3", "the call would end above 2^63 - 1")),
     ("a stamp of another unit", CSV + " --unit s", HEAD + b"1,17645901250000000,put,a,x\n", ("2:3", "end is above 2^63 - 1 nanoseconds: \"17645901250000000\"; is its unit s?")),
-    ("a date where a number stands", CSV, HEAD + b"2026-12-01T11:55:25Z,2,put,a,x\n", ("2:1", "give --unit rfc3339")),
     ("a number where a date stands", CSV + " --unit rfc3339", HEAD + b"1,2,put,a,x\n", ("2:1", "for a number give --unit s, ms, us or ns")),
     ("a date without a zone", CSV + " --unit rfc3339", HEAD + b"2026-12-01T11:55:25.5,2,put,a,x\n", ("2:1", "it has no zone: write Z")),
     ("a month that there is not", CSV + " --unit rfc3339", HEAD + b"2026-13-01T11:55:25Z,2,put,a,x\n", ("2:1", "start is no time that there is")),
     ("a zone that there is not", CSV + " --unit rfc3339", HEAD + b"2026-12-01T11:55:25+99:00,2,put,a,x\n", ("2:1", "start is no time that there is")),
     ("a year before 1970", CSV + " --unit rfc3339", HEAD + b"1969-12-31T23:59:59Z,2,put,a,x\n", ("2:1", "start is before 1970")),
-    ("an end before its start", CSV, HEAD + b"5,4,put,a,x\n", ("2:3", 'the end "4" is before the start "5"')),
-    ("an unknown operation", CSV, HEAD + b"1,2,frobnicate,a,x\n", ("2:5", 'the operation "frobnicate" is unknown: say what it is by --map frobnicate=get')),
-    ("an operation that can't be judged", CSV, HEAD + b"1,2,INCR,a,x\n", ("2:5", "leave out its keys by --map incr=leave")),
-    ("an operation of many keys", CSV, HEAD + b"1,2,mget,a,x\n", ("2:5", "write a row for each key")),
-    ("an empty operation", CSV, HEAD + b"1,2,,a,x\n", ("2:5", 'the operation "" is unknown')),
     ("an unknown result", CSV + " --result r", RESULT + b"1,2,put,a,x,200\n", ("2:13", 'the result "200" is unknown: say what it is by --map-result')),
     ("a get that went well, with an empty field", CSV + " --result r", RESULT + b"1,2,get,a,,ok\n", ("2:12", 'the result "ok" does not say whether this get hit')),
     ("a put that hit", CSV + " --result r", RESULT + b"1,2,put,a,x,hit\n", ("2:13", 'a put can\'t have the result "hit"')),
     ("a key of 256 bytes", CSV, HEAD + b"1,2,put," + b"k" * 256 + b",x\n", ("2:9", "a key has 1 to 255 bytes, and this one has 256: leave out its calls (--skip-bad), or give --hash-keys")),
-    ("an empty key", CSV, HEAD + b"1,2,put,,x\n", ("2:9", "a key has 1 to 255 bytes, and this one has 0")),
     ("a NUL byte", CSV, HEAD + b"1,2,put,a\0,x\n", ("2:10", "a NUL byte")),
     ("UTF-16", CSV, "s,e\n".encode("utf-16"), ("1:4", "a NUL byte: the file is in UTF-16 or was damaged; write it in UTF-8")),
     ("no UTF-8", CSV, HEAD + b"1,2,put,a,caf\xe9\n", ("2:14", "the byte e9 is no UTF-8: write the file in UTF-8")),

@@ -63,19 +63,20 @@ def memory_of_clients():
         raise Skipped("the C library's own memory, which a sanitizer replaces")
     value, count = b"v" * 1000, 120
     one, gets = b"VALUE v 0 1000\r\n" + value + b"\r\nEND\r\n", 400
+    sets = b"set w 0 0 1000 noreply\r\n%s\r\n" % value * 12  # they wait until the answers are taken
     with server("-t", "1", environment={"MALLOC_MMAP_THRESHOLD_": "1024"}) as it:  # each piece of memory is one of the system's
         asks, clients = it.client(), it.greeted(1 + count)
         asks.ask(b"set v 0 0 1000\r\n" + value + b"\r\n", b"STORED\r\n")
         for some in clients[:1], clients[1:]:  # the first has the server take what all share
             before = it.kib()
             for client in some:
-                client.send(b"get v\r\n" * gets)
+                client.send(b"get v\r\n" * gets + sets)
             wait_for(lambda: sum(state == "conn_mwrite" for state in asks.stats(b"conns").values()) == len(some), "answers wait")
             for client in some:
                 equal(client.take(gets * len(one)), one * gets, "the answers")
-                client.send(b"set w 0 0 2000\r\n" + value)
+                client.send(b"set w 0 0 2000\r\n" + value + value[:500])
             for client in some:
-                client.ask(value + b"\r\n", b"STORED\r\n", "a request that came in two pieces")
+                client.ask(value[500:] + b"\r\n", b"STORED\r\n", "a request that came in two pieces")
         grew_little(it, before, 2 * count)
 
 

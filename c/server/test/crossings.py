@@ -1,5 +1,4 @@
 """What is of one client and does not cross to another, and what crosses from clients to the threads that tend the cache."""
-import os
 import pathlib
 import signal
 import subprocess
@@ -91,8 +90,9 @@ def halves_of_one_who_left():
 
 
 def answers_before_quit(client, items):
-    """A client quits behind many gets, sends on, and reads only later: it gets all of its answers, and then the end."""
-    client.send(b"".join(b"get %s\r\n" % key for key in items) + b"quit\r\n" + b"x" * 3000)
+    """A client quits behind many gets, sends on, more than a server reads at once, and reads only later: it gets all of its answers, and
+    then the end."""
+    client.send(b"".join(b"get %s\r\n" % key for key in items) + b"quit\r\n" + b"x" * 20_000)
     time.sleep(0.2)
     equal(client.take(1 << 20), answer_to_gets(items), "the answers to a client that quits")
 
@@ -170,18 +170,9 @@ def counts_of_all():
         equal(int(clients[0].stats()["cmd_get"]), 1, "a get after a reset")
 
 
-def leads_nowhere(descriptor):
-    """Whether a descriptor leads nowhere. One that was closed since it was listed does not."""
-    try:
-        return os.readlink(descriptor) == "/dev/null"
-    except FileNotFoundError:
-        return False
-
-
 def spares(it):
     """How many descriptors of a server lead nowhere: of these one is kept for clients for whom there is none."""
-    folder = f"/proc/{it.process.pid}/fd"
-    return sum(leads_nowhere(f"{folder}/{name}") for name in os.listdir(folder))
+    return it.descriptors().count("/dev/null")
 
 
 @shows("through 200 clients that come and go -c are served, and no more")
@@ -212,12 +203,20 @@ def no_descriptor():
         it.remove()
 
 
+def wait_for_the_end_of_a_second(client):
+    """Waits until a second of the server's clock is nearly over."""
+    began = client.stats()["time"]
+    wait_for(lambda: client.stats()["time"] != began, "the server's clock goes on")
+    time.sleep(0.8)
+
+
 @shows("of 40 silent clients each is closed once its time is over, and none that asks")
 def many_idle():
     with server("-o", "idle_timeout=1", "-t", "2") as it:
         busy = it.client()
-        silent = [it.client() for _ in range(40)]
+        wait_for_the_end_of_a_second(busy)  # so the next one begins long before their time is over
         began = time.monotonic()
+        silent = it.greeted(40)
         while int(busy.stats()["curr_connections"]) > 1 and time.monotonic() < began + 20:
             time.sleep(0.05)
         took = time.monotonic() - began

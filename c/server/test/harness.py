@@ -233,6 +233,14 @@ class Server:
         lines = pathlib.Path(f"/proc/{self.process.pid}/status").read_text(encoding="ascii").splitlines()
         return int(next(it for it in lines if it.startswith(name + ":")).split()[1])
 
+    def descriptors(self):
+        """Where its descriptors lead. One that it has closed since they were listed is left out."""
+        found = []
+        for name in os.listdir(f"/proc/{self.process.pid}/fd"):
+            with contextlib.suppress(FileNotFoundError):
+                found.append(os.readlink(f"/proc/{self.process.pid}/fd/{name}"))
+        return found
+
     def stop(self, by=signal.SIGTERM):
         """Ends it, and returns its status."""
         if self.process.poll() is None:

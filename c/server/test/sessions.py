@@ -1,9 +1,13 @@
 """Bytes of clients: requests whole, in pieces, many at once, without end."""
+import os
 import random
+import shutil
+import subprocess
+import sys
 import threading
 import time
 
-from harness import IS_QUICK, Client, equal, expect, grew_little, server, shows
+from harness import IS_QUICK, MORE, PROGRAM, Client, Skipped, equal, expect, grew_little, server, shows
 
 FIRST = [
     (b"set a 5 0 3\r\nabc\r\n", b"STORED\r\n"),
@@ -253,3 +257,16 @@ def noise():
                 pass
             client.close()
         Client(it.path).ask(b"mn\r\n", b"MN\r\n")
+
+
+@shows("20,000 random commands, right and wrong ones, are answered as memcached 1.6.18 answers them, but for what docs/SERVER.md announces")
+def beside_memcached():
+    memcached = shutil.which("memcached")
+    if memcached is None or b" 1.6.18" not in subprocess.run([memcached, "-V"], stdout=subprocess.PIPE, check=False).stdout:
+        raise Skipped("memcached 1.6.18")
+    compare = os.path.join(os.path.dirname(os.path.abspath(__file__)), "beside-memcached")
+    words = [sys.executable, "-B", compare, memcached, PROGRAM["kangarood"], "20000" if MORE == 1 else "2000"]
+    ran = subprocess.run(words, stdin=subprocess.DEVNULL, stdout=subprocess.PIPE, stderr=subprocess.STDOUT, timeout=600, check=False)
+    said = ran.stdout.decode(errors="replace").splitlines()
+    print(f"    {said[-1]}", flush=True)
+    equal(ran.returncode, 0, "the status, having said:\n" + "\n".join(said[-40:]))

@@ -7,6 +7,8 @@ import signal
 import socket
 import stat
 import subprocess
+import tempfile
+import time
 
 from harness import PATIENCE, PROGRAM, Client, Server, Skipped, equal, expect, free_port, listens, run_words, server, shows, usual_words, wait_for
 
@@ -41,6 +43,36 @@ def answers_before_the_end():
         first = client.take(len(one))
         equal(it.stop(), 0, "status")
         expect((one * 1000).startswith(first + client.take(1000 * len(one))), "its answers")
+
+
+def files_of_cache(it):
+    """The files of its cache that a server has open or mapped."""
+    mapped = pathlib.Path(f"/proc/{it.process.pid}/maps").read_text(encoding="ascii").split()
+    return {name for name in [*it.descriptors(), *mapped] if name.startswith(f"{it.folder}/kangaroo")}
+
+
+@shows("a server that ends has its cache until its last client is answered, and that one gets the front of its answers")
+def cache_to_the_last_answer():
+    if PROGRAM["narrow"] is None:
+        raise Skipped("a library that has sends wait, which the sanitizers do not allow")
+    one, count = b"VALUE v 0 1000\r\n" + b"v" * 1000 + b"\r\nEND\r\n", 1000
+    with tempfile.TemporaryDirectory(prefix="kangarood-room-") as at:
+        holding = pathlib.Path(f"{at}/hold")
+        with server("-v", "-t", "1", environment={"LD_PRELOAD": PROGRAM["narrow"], "HOLD_SENDS": str(holding)}) as it:
+            client = it.client()
+            client.ask(b"set v 0 0 1000\r\n" + b"v" * 1000 + b"\r\n", b"STORED\r\n")
+            before = files_of_cache(it)
+            holding.touch()
+            client.send(b"get v\r\n" * count)
+            wait_for(lambda: os.path.exists(f"{holding}.held"), "an answer is about to be sent")
+            it.process.send_signal(signal.SIGTERM)
+            wait_for(lambda: "ends by" in it.said(), "the server is to end")
+            time.sleep(0.3)
+            equal(files_of_cache(it), before, "the files of the cache while a client is answered")
+            holding.unlink()
+            answers = client.take(count * len(one))
+            expect(len(answers) >= len(one) and (one * count).startswith(answers), "its answers")
+            equal(it.process.wait(PATIENCE), 0, f"the status, having said {it.said()}")
 
 
 @shows("the mode of a Unix socket is that of -a, and a socket that a dead server left is replaced")
@@ -225,7 +257,8 @@ def verbose():
         said = it.said()
         expect("new client connection" in said and " set a 0 0 1" in said and " STORED" in said, said)
         expect("VALUE" not in said, "after verbosity 0 nothing more is told")
-        client.ask(b"verbosity 2\r\nget " + b"k" * 96 + b"\r\nget " + b"k" * 97 + b"\r\n", b"OK\r\nEND\r\nEND\r\n")
+        lengths = (99, 101, 102, 250)
+        client.ask(b"verbosity 2\r\n" + b"".join(b"get " + b"k" * it + b"\r\n" for it in lengths), b"OK\r\n" + b"END\r\n" * len(lengths))
         told = [line.split(" ", 1)[1] for line in it.said().splitlines() if "kkk" in line]
-        equal(told, ["k" * 96, "k" * 97], "keys that are told")
+        equal(told, ["k" * 99] + ["k" * 100 + ".."] * 3, "keys that are told, of which 100 bytes are")
         client.ask(b"get " + b"k " * 60 + b"\r\nmn\r\n", b"END\r\nMN\r\n")

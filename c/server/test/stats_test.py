@@ -84,6 +84,22 @@ def long_path():
         shutil.rmtree(folder.split("/xxx")[0], ignore_errors=True)
 
 
+@shows("stats after almost as many answers as go out at once is answered whole, after them, and so is what a client asks then")
+def stats_after_answers():
+    one = b"VALUE v 0 1000\r\n" + b"v" * 1000 + b"\r\nEND\r\n"
+    with server("-t", "1") as it:
+        client, other = it.client(), it.client()
+        client.ask(b"set v 0 0 1000\r\n" + b"v" * 1000 + b"\r\n", b"STORED\r\n")
+        names = list(client.stats())
+        for count in range(60, 65):
+            for _ in range(4):
+                client.ask(b"get v\r\n" * count + b"stats\r\n", one * count, f"{count} answers before stats")
+                lines = client.take_to(b"END\r\n").decode().split("\r\n")
+                equal([line.split(" ")[:2] for line in lines], [*(["STAT", name] for name in names), ["END"], [""]], f"stats after {count} answers")
+                client.ask(b"get v\r\n" * 100, one * 100, "the answers after it")
+                other.ask(b"get v\r\n", one, "the answer to another client")
+
+
 @shows("version and stats give a version of memcached that clients can parse, and stats says whose it is")
 def versions():
     with server() as it:

@@ -1,6 +1,7 @@
 pub mod Lane
 pub mod Statuses
 pub mod Placing
+pub mod Homes
 pub mod Shapes
 pub mod Opening
 pub mod Copying

@@ -5,6 +5,7 @@
 mod copying;
 mod counters;
 mod hit;
+mod home;
 mod judging;
 mod key_place;
 mod lane;
@@ -20,6 +21,7 @@ mod wanted;
 
 pub use counters::{Counters, LANE_COUNTERS};
 pub use hit::Hit;
+pub use home::LaneHome;
 pub use judging::judge_trace;
 pub use key_place::{KeyPlace, place_of};
 pub use lane::CLane;

@@ -10,6 +10,7 @@ use Rattle.clap.specs.declared.error.kind.ErrorKind.{ErrorKind}
 use Rattle.clap.specs.declared.error.kind.ErrorKind.TheVariants.{DisplayHelp, DisplayVersion}
 use Rattle.history_text.specs.declared.share.Share.{Share}
 use Rattle.history_text.specs.Readings.{share_by}
+use Rattle.judge_run.specs.declared.scope.Scope.{Scope}
 use Rattle.load.specs.Asked.{numbers_of, served_numbers_of}
 use Rattle.load.specs.Settings.{bytes_in, is_decimal, number_in, row_of, served_settings, settings, shape_settings, value_of_text}
 use Rattle.load.specs.Sizes.{name_of}
@@ -87,6 +88,10 @@ out_rule = value_rule (codes "trace")
 abbrev pub junit_rule : Rule
 junit_rule = value_rule (codes "junit")
 
+-- the file that a page of the history is written to
+abbrev pub html_rule : Rule
+html_rule = value_rule (codes "html")
+
 -- how many calls an accepted history has to have
 abbrev pub least_rule : Rule
 least_rule = value_rule (codes "at-least")
@@ -123,9 +128,9 @@ with_history app = with_rule (with_rule (with_rule app explain_rule) json_rule) 
 abbrev pub check_command : App
 check_command = with_history (with_rule (new_app (codes "check")) file_rule)
 
--- a command with a flag for all faults, and options for the trace and the JUnit file that are to be written
+-- a command with a flag for all faults, and options for the trace, the JUnit file and the page that are to be written
 abbrev pub with_listing : App → App
-with_listing app = with_rule (with_rule (with_rule app all_rule) out_rule) junit_rule
+with_listing app = with_rule (with_rule (with_rule (with_rule app all_rule) out_rule) junit_rule) html_rule
 
 -- a command with options for how many calls there have to be and how wrong stamps may be, and a flag for values from the start
 abbrev pub with_scope : App → App
@@ -181,7 +186,7 @@ program = with_loads (with_judging scripts_program)
 
 -- a history that is to be judged: its file, and those of further ones; whether it is said why it is rejected, whether all its faults are listed, and whether that
 -- is told as a JSON object; the files that a picture of why it is rejected is drawn to, that it is written to as a trace, and that what
--- came of it is written to as JUnit has it, if they are named; how many calls it has to have if it is accepted; by how much its stamps may differ from the truth;
+-- came of it is written to as JUnit has it, and that a page is written to, if they are named, and whether that page is made; how many calls it has to have if it is accepted; by how much its stamps may differ from the truth;
 -- whether values may have been there from the start; which keys' calls are judged; whether bad lines are passed over; and the window of
 -- a text that is judged as its calls come, if it is
 pub record Judging : Type 0 where
@@ -193,6 +198,8 @@ pub record Judging : Type 0 where
   pub picture : Option Text
   pub trace : Option Text
   pub junit : Option Text
+  pub html : Option Text
+  pub page : Bool
   pub least : ℕ
   pub skew : ℕ
   pub warm : Bool
@@ -227,6 +234,8 @@ wanted_of (Judge request) = Judged (record {
   picture = request.picture;
   trace = request.trace;
   junit = request.junit;
+  html = request.html;
+  page = request.detail.page;
   least = request.at_least;
   skew = request.scope.skew;
   warm = request.scope.warm;
@@ -298,16 +307,24 @@ is_input file = bytes_eq file (codes "-")
 
 -- a file is to be written beside the verdict
 abbrev pub has_output : List Row → Bool
-has_output rows = is_some (first_of (codes "trace") rows) || (is_some (first_of (codes "picture") rows) || is_some (first_of (codes "junit") rows))
+has_output rows = is_some (first_of (codes "trace") rows) || (is_some (first_of (codes "picture") rows) || (is_some (first_of (codes "junit") rows) || is_some (first_of (codes "html") rows)))
 
 -- these files can be judged in turn: the standard input is one of them once at most, and if there are several, no file is to be written beside the verdicts
 abbrev pub can_follow : List Row → List Text → Bool
 can_follow rows files = nat_le (count_by is_input files) 1 && not (nat_lt 1 (length files) && has_output rows)
 
--- the judging that was found of the history in a file, and of those in others, of which an accepted one has to have so many calls, with stamps
--- that may differ by so much, of a share of keys, with a window if there is one
-abbrev pub judging_of : List Row → ℕ → ℕ → Share → Option ℕ → Text → List Text → Judging
-judging_of rows least skew share window file others = record {
+-- which calls are judged: with stamps that may differ by so much, of a share of keys, with a window if there is one
+abbrev pub scope_of : List Row → ℕ → Share → Option ℕ → Scope
+scope_of rows skew share window = record {
+  skew = skew;
+  warm = is_on (codes "warm") rows;
+  reading = record { share = share; skip_bad = is_on (codes "skip-bad") rows };
+  window = window;
+}
+
+-- the judging that was found of the history in a file, and of those in others, of which an accepted one has to have so many calls, in this scope
+abbrev pub judging_in : List Row → ℕ → Scope → Text → List Text → Judging
+judging_in rows least scope file others = record {
   file = file;
   others = others;
   explain = is_on (codes "explain") rows;
@@ -316,13 +333,19 @@ judging_of rows least skew share window file others = record {
   picture = first_of (codes "picture") rows;
   trace = first_of (codes "trace") rows;
   junit = first_of (codes "junit") rows;
+  html = first_of (codes "html") rows;
+  page = is_some (first_of (codes "html") rows);
   least = least;
-  skew = skew;
-  warm = is_on (codes "warm") rows;
-  share = share;
-  skip_bad = is_on (codes "skip-bad") rows;
-  window = window;
+  skew = scope.skew;
+  warm = scope.warm;
+  share = scope.reading.share;
+  skip_bad = scope.reading.skip_bad;
+  window = scope.window;
 }
+
+-- the same, with stamps that may differ by so much, of a share of keys, with a window if there is one
+abbrev pub judging_of : List Row → ℕ → ℕ → Share → Option ℕ → Text → List Text → Judging
+judging_of rows least skew share window file others = judging_in rows least (scope_of rows skew share window) file others
 
 -- what is asked of these files
 abbrev pub judge_wanted_on : List Row → ℕ → ℕ → Share → Option ℕ → List Text → Option Wanted

@@ -1,7 +1,7 @@
 // What was found for the arguments of `judge`, if each of its numbers is one.
 ghost use Rattle.std.specs.Prelude.{◌≡◌, ◌||◌, IfOk, IfErr, IsSome, Some, codes, count_by, is_some, map};
 ghost use Rattle.clap.specs.Words.{first_of, found_of, rows_of};
-ghost use Rattle.command_line.specs.CommandLine.{Judged, has_output, is_input, judge_wanted_of, judge_wanted_on, judging_of, wanted_of, IsUsage};
+ghost use Rattle.command_line.specs.CommandLine.{Judged, has_output, is_input, judge_wanted_of, judge_wanted_on, judging_in, scope_of, wanted_of, IsUsage};
 
 use crate::asked_file::{file_found, is_given, is_on};
 use crate::line::Line;
@@ -67,8 +67,23 @@ fn judging_on<'a>(
     }
     let file = FileName::new(alloc, file)?;
     let others = file_names(alloc, others)?;
-    let request = judge_request(alloc, found, at_least, skew, share, window, file, others)?;
+    let scope = scope_of(found, skew, share, window);
+    let request = judge_request(alloc, found, at_least, scope, file, others)?;
     Ok(Line::Judge(request))
+}
+
+/// Which calls are judged, and how they are read.
+fn scope_of<'a>(found: &ArgMatches<'a>, skew: u64, share: Share, window: Option<u64>) -> Scope
+    ensures { result ≡ scope_of (rows_of (found_of found.now)) skew share window }
+{
+    let warm = is_on(found, "warm");
+    let skip_bad = is_on(found, "skip-bad");
+    Scope {
+        skew,
+        warm,
+        reading: Reading { share, skip_bad },
+        window,
+    }
 }
 
 /// The judging that was found of these files.
@@ -76,14 +91,12 @@ fn judge_request<'a>(
     alloc: Global,
     found: &ArgMatches<'a>,
     at_least: u64,
-    skew: u64,
-    share: Share,
-    window: Option<u64>,
+    scope: Scope,
     file: FileName,
     others: Vec<FileName>,
 ) -> Result<JudgeRequest, AllocError>
     ensures { IfOk result (λ request. wanted_of (Line.Judge request)
-        ≡ Judged (judging_of (rows_of (found_of found.now)) at_least skew share window file others.items)) }
+        ≡ Judged (judging_in (rows_of (found_of found.now)) at_least scope file others.items)) }
 {
     let explain = is_on(found, "explain");
     let all = is_on(found, "all");
@@ -91,24 +104,19 @@ fn judge_request<'a>(
     let picture = file_found(alloc, found, "picture")?;
     let trace = file_found(alloc, found, "trace")?;
     let junit = file_found(alloc, found, "junit")?;
-    let warm = is_on(found, "warm");
-    let skip_bad = is_on(found, "skip-bad");
-    let reading = Reading { share, skip_bad };
+    let html = file_found(alloc, found, "html")?;
+    let page = html.is_some();
     Ok(JudgeRequest {
         file,
         others,
-        detail: Detail { explain, all },
+        detail: Detail { explain, all, page },
         json,
         picture,
         trace,
         junit,
+        html,
         at_least,
-        scope: Scope {
-            skew,
-            warm,
-            reading,
-            window,
-        },
+        scope,
     })
 }
 
@@ -148,5 +156,6 @@ fn inputs_among(files: &[&str]) -> usize
 fn has_output<'a>(found: &ArgMatches<'a>) -> bool
     ensures { result ≡ has_output (rows_of (found_of found.now)) }
 {
-    is_given(found, "trace") || (is_given(found, "picture") || is_given(found, "junit"))
+    is_given(found, "trace")
+        || (is_given(found, "picture") || (is_given(found, "junit") || is_given(found, "html")))
 }

@@ -51,3 +51,50 @@ pub const SERVE: Help = Help {
     about: "Load the cache that serves with threads, and report hits, latencies and writes",
     notes: "Use it to measure the cache. Nothing is recorded; each caller checks the hits of its own keys.\n\nExample:\n  kangaroo serve-load --size 100M --callers 4 --keys 50000\n\nExit status: 0 no hit was wrong, 1 a hit was wrong, 2 bad options, 3 memory, a file or the system\n             failed\nManual: man kangaroo, or docs/CLI.md",
 };
+
+// What the help says of the options that judge and show.
+
+/// Whether it is said why a history is rejected.
+pub const EXPLAIN: &str =
+    "Explain why the history is rejected, and show the calls around the place";
+
+/// Whether all faults of a rejected history are listed.
+pub const ALL: &str = "List all faults of a rejected history, one a line";
+
+/// The file that a picture is drawn to.
+pub const PICTURE: &str = "Draw why the history is rejected to this file, as SVG";
+
+/// The file that an accepted history is written to.
+pub const TRACE: &str = "Write an accepted history to this file, as a trace that check accepts";
+
+/// The file that what came of judging is written to, as JUnit has it.
+pub const JUNIT: &str = "Write what came of it to this file, as a JUnit test that CI systems show";
+
+/// The file that a page of the calls and the faults is written to.
+pub const HTML: &str = "Write all calls and faults to this file, as a page that a browser draws";
+
+/// How many calls an accepted history has to have.
+pub const AT_LEAST: &str =
+    "End with status 2 if an accepted history has fewer calls than this, 0 to\n268435456. [default: 0]";
+
+/// By how much each stamp may differ from the truth.
+pub const SKEW: &str =
+    "Judge as if each time might be wrong by so much, in the unit of the\ninput's times, 0 to 9223372036854775807. [default: 0]";
+
+/// Whether values that were there from the start are taken as such.
+pub const WARM: &str =
+    "Take values that were read and never put as there from the start,\none of a key";
+
+/// Which keys' calls are judged.
+pub const KEYS: &str =
+    "Judge one in Q keys: those whose hash leaves the remainder P, which is\nless than Q. With 0/Q to Q-1/Q each key is judged once.";
+
+/// Whether bad lines are passed over.
+pub const SKIP_BAD: &str = "Pass over lines that are not calls, and count them";
+
+/// How far back a call may start, if the calls are judged as they come.
+pub const WINDOW: &str =
+    "Judge the calls as they come, and forget what can't matter any more. A\ncall may start so much before the last END that was read before, in the\nunit of the input's times, 0 to 9223372036854775807.";
+
+/// The key whose calls alone are written.
+pub const KEY: &str = "Print only the calls on this key (percent-encoded)";

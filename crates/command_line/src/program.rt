@@ -1,7 +1,7 @@
 // The program's command line, as `clap` reads it.
 ghost use Rattle.std.specs.Prelude.{◌≡◌, IfOk, false};
 ghost use Rattle.clap.specs.Words.{app_of, new_app, rule_of};
-ghost use Rattle.command_line.specs.CommandLine.{all_rule, check_command, device_rule, explain_rule, file_rule, files_rule, flag_rule, json_rule, judge_command, junit_rule, key_rule, keys_rule, least_rule, option_rule, out_rule, picture_rule, program, run_command, script_command, scripts_program, serve_command, show_command, size_rule, skew_rule, skip_rule, trace_rule, value_rule, warm_rule, window_rule, with_history, with_judging, with_listing, with_loads, with_reading, with_scope, zipf_rule};
+ghost use Rattle.command_line.specs.CommandLine.{check_command, device_rule, file_rule, files_rule, flag_rule, json_rule, judge_command, option_rule, program, run_command, script_command, scripts_program, serve_command, show_command, size_rule, trace_rule, value_rule, with_history, with_judging, with_listing, with_loads, with_reading, with_scope, zipf_rule};
 
 use crate::help;
 use crate::help::Help;
@@ -104,36 +104,37 @@ pub fn judge<'a>(alloc: Global) -> Result<Command<'a>, AllocError>
 fn with_scope<'a>(alloc: Global, command: Command<'a>) -> Result<Command<'a>, AllocError>
     ensures { IfOk result (λ c. app_of c ≡ with_scope (app_of command.entry)) }
 {
-    let counted = command.arg(at_least(alloc))?;
-    let widened = counted.arg(skew(alloc))?;
-    widened.arg(warm(alloc))
+    let counted = command.arg(valued(alloc, "at-least", "NUMBER", help::AT_LEAST))?;
+    let widened = counted.arg(valued(alloc, "skew", "NUMBER", help::SKEW))?;
+    widened.arg(flag(alloc, "warm", help::WARM))
 }
 
 /// A command that judges the calls of some keys, passes over bad lines if that is wanted, and judges calls as they come if there is a window.
 fn with_reading<'a>(alloc: Global, command: Command<'a>) -> Result<Command<'a>, AllocError>
     ensures { IfOk result (λ c. app_of c ≡ with_reading (app_of command.entry)) }
 {
-    let shared = command.arg(keys(alloc))?;
-    let skipping = shared.arg(skip_bad(alloc))?;
-    skipping.arg(window(alloc))
+    let shared = command.arg(valued(alloc, "keys", "P/Q", help::KEYS))?;
+    let skipping = shared.arg(flag(alloc, "skip-bad", help::SKIP_BAD))?;
+    skipping.arg(valued(alloc, "window", "NUMBER", help::WINDOW))
 }
 
-/// A command that lists all faults if that is wanted, and writes a trace and a JUnit file.
+/// A command that lists all faults if that is wanted, and writes a trace, a JUnit file and a page.
 fn with_listing<'a>(alloc: Global, command: Command<'a>) -> Result<Command<'a>, AllocError>
     ensures { IfOk result (λ c. app_of c ≡ with_listing (app_of command.entry)) }
 {
-    let listed = command.arg(all(alloc))?;
-    let traced = listed.arg(out(alloc))?;
-    traced.arg(junit(alloc))
+    let listed = command.arg(flag(alloc, "all", help::ALL))?;
+    let traced = listed.arg(valued(alloc, "trace", "OUT", help::TRACE))?;
+    let tested = traced.arg(valued(alloc, "junit", "OUT", help::JUNIT))?;
+    tested.arg(valued(alloc, "html", "OUT", help::HTML))
 }
 
 /// A command that judges a history.
 fn with_history<'a>(alloc: Global, command: Command<'a>) -> Result<Command<'a>, AllocError>
     ensures { IfOk result (λ c. app_of c ≡ with_history (app_of command.entry)) }
 {
-    let explained = command.arg(explain(alloc))?;
+    let explained = command.arg(flag(alloc, "explain", help::EXPLAIN))?;
     let told = explained.arg(json(alloc))?;
-    told.arg(picture(alloc))
+    told.arg(valued(alloc, "picture", "OUT", help::PICTURE))
 }
 
 /// The subcommand `show`.
@@ -142,7 +143,7 @@ fn show<'a>(alloc: Global) -> Result<Command<'a>, AllocError>
 {
     let show = command(alloc, "show", &help::SHOW);
     let show = show.arg(file(alloc, "File of the trace, or - for standard input"))?;
-    show.arg(key(alloc))
+    show.arg(valued(alloc, "key", "KEY", help::KEY))
 }
 
 /// The file that is to be read.
@@ -187,164 +188,12 @@ fn valued<'a>(alloc: Global, name: &'a str, value: &'a str, meaning: &'a str) ->
         .help(meaning)
 }
 
-/// Whether it is said why a history is rejected.
-fn explain<'a>(alloc: Global) -> Arg<'a>
-    ensures rule { rule_of result ≡ explain_rule }
-    ensures local { result.global ≡ false }
-{
-    flag(
-        alloc,
-        "explain",
-        "Explain why the history is rejected, and show the calls around the place",
-    )
-}
-
-/// Whether all faults of a rejected history are listed.
-fn all<'a>(alloc: Global) -> Arg<'a>
-    ensures rule { rule_of result ≡ all_rule }
-    ensures local { result.global ≡ false }
-{
-    flag(
-        alloc,
-        "all",
-        "List all faults of a rejected history, one a line",
-    )
-}
-
 /// Whether what is reported is a JSON object and not lines.
 fn json<'a>(alloc: Global) -> Arg<'a>
     ensures rule { rule_of result ≡ json_rule }
     ensures local { result.global ≡ false }
 {
     flag(alloc, "json", "Print one JSON object instead of lines")
-}
-
-/// The file that a picture is drawn to.
-fn picture<'a>(alloc: Global) -> Arg<'a>
-    ensures rule { rule_of result ≡ picture_rule }
-    ensures local { result.global ≡ false }
-{
-    valued(
-        alloc,
-        "picture",
-        "OUT",
-        "Draw why the history is rejected to this file, as SVG",
-    )
-}
-
-/// The file that an accepted history is written to.
-fn out<'a>(alloc: Global) -> Arg<'a>
-    ensures rule { rule_of result ≡ out_rule }
-    ensures local { result.global ≡ false }
-{
-    valued(
-        alloc,
-        "trace",
-        "OUT",
-        "Write an accepted history to this file, as a trace that check accepts",
-    )
-}
-
-/// The file that what came of judging is written to, as JUnit has it.
-fn junit<'a>(alloc: Global) -> Arg<'a>
-    ensures rule { rule_of result ≡ junit_rule }
-    ensures local { result.global ≡ false }
-{
-    valued(
-        alloc,
-        "junit",
-        "OUT",
-        "Write what came of it to this file, as a JUnit test that CI systems show",
-    )
-}
-
-/// How many calls an accepted history has to have.
-fn at_least<'a>(alloc: Global) -> Arg<'a>
-    ensures rule { rule_of result ≡ least_rule }
-    ensures local { result.global ≡ false }
-{
-    valued(
-        alloc,
-        "at-least",
-        "NUMBER",
-        "End with status 2 if an accepted history has fewer calls than this, 0 to\n268435456. [default: 0]",
-    )
-}
-
-/// By how much each stamp may differ from the truth.
-fn skew<'a>(alloc: Global) -> Arg<'a>
-    ensures rule { rule_of result ≡ skew_rule }
-    ensures local { result.global ≡ false }
-{
-    valued(
-        alloc,
-        "skew",
-        "NUMBER",
-        "Judge as if each time might be wrong by so much, in the unit of the\ninput's times, 0 to 9223372036854775807. [default: 0]",
-    )
-}
-
-/// Whether values that were there from the start are taken as such.
-fn warm<'a>(alloc: Global) -> Arg<'a>
-    ensures rule { rule_of result ≡ warm_rule }
-    ensures local { result.global ≡ false }
-{
-    flag(
-        alloc,
-        "warm",
-        "Take values that were read and never put as there from the start,\none of a key",
-    )
-}
-
-/// Which keys' calls are judged.
-fn keys<'a>(alloc: Global) -> Arg<'a>
-    ensures rule { rule_of result ≡ keys_rule }
-    ensures local { result.global ≡ false }
-{
-    valued(
-        alloc,
-        "keys",
-        "P/Q",
-        "Judge one in Q keys: those whose hash leaves the remainder P, which is\nless than Q. With 0/Q to Q-1/Q each key is judged once.",
-    )
-}
-
-/// Whether bad lines are passed over.
-fn skip_bad<'a>(alloc: Global) -> Arg<'a>
-    ensures rule { rule_of result ≡ skip_rule }
-    ensures local { result.global ≡ false }
-{
-    flag(
-        alloc,
-        "skip-bad",
-        "Pass over lines that are not calls, and count them",
-    )
-}
-
-/// How far back a call may start, if the calls are judged as they come.
-fn window<'a>(alloc: Global) -> Arg<'a>
-    ensures rule { rule_of result ≡ window_rule }
-    ensures local { result.global ≡ false }
-{
-    valued(
-        alloc,
-        "window",
-        "NUMBER",
-        "Judge the calls as they come, and forget what can't matter any more. A\ncall may start so much before the last END that was read before, in the\nunit of the input's times, 0 to 9223372036854775807.",
-    )
-}
-
-/// The key whose calls alone are written.
-fn key<'a>(alloc: Global) -> Arg<'a>
-    ensures rule { rule_of result ≡ key_rule }
-    ensures local { result.global ≡ false }
-{
-    valued(
-        alloc,
-        "key",
-        "KEY",
-        "Print only the calls on this key (percent-encoded)",
-    )
 }
 
 /// The subcommand `run`.

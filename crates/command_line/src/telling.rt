@@ -54,7 +54,7 @@ pub fn no_file(alloc: Global, subcommand: &str) -> LineFault
 }
 
 /// A subcommand that takes numbers.
-#[derive(Clone, Copy, PartialEq, Eq)]
+#[derive(Clone, Copy)]
 pub enum Loading {
     /// `judge`.
     Judge,
@@ -129,7 +129,7 @@ pub fn not_with_files(alloc: Global) -> LineFault
 {
     conflict(
         alloc,
-        "--trace, --picture and --junit write one file, so they take one FILE: judge each by a command of its own",
+        "--trace, --picture, --junit and --html write one file, so they take one FILE: judge each by a command of its own",
     )
 }
 

@@ -1,4 +1,11 @@
+mod asked;
+mod asked_loads;
+mod files;
+mod loads;
 mod recorded;
 mod screen;
 mod script_runs;
 mod serving;
+mod settings;
+mod told;
+mod words;

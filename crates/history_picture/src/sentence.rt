@@ -2,13 +2,14 @@
 ghost use Rattle.std.specs.Prelude.{◌≡◌, IfOk, string_bytes};
 ghost use Rattle.std.specs.List.{flat_map};
 ghost use Rattle.std.specs.Option.{option_copied};
+ghost use Rattle.history_picture.specs.Reasons.{reason_of};
 ghost use Rattle.history_picture.specs.Sentences.{also_words, crossed_words, excuse_words, expired_words, hit_kind, hit_words, interval_words, latest_words, lone_words, order_words, out_of_order_words, read_words, repeated_words, replaced_words, sentence_of, unread_words, wrong_hit_words};
 
 use crate::latest::Latest;
 use crate::marks::{first_eight, first_three};
 use crate::reason::Reason;
 use crate::scene::Scene;
-use certificate_finder::{CrossedWrites, Excluded, Excuse, Side, UnreadHit};
+use certificate_finder::{CrossedWrites, Excluded, Excuse, Side, UnreadHit, Witness};
 use std::alloc::{AllocError, Global};
 
 impl Scene<'_> {
@@ -35,6 +36,19 @@ impl Scene<'_> {
                 alloc,
                 "the certificate has another number of places than the history has calls",
             ),
+        }
+    }
+
+    /// The same of a witness that a history has no order.
+    pub fn witness_sentence(&self, alloc: Global, witness: &Witness) -> Result<String, AllocError>
+        ensures { IfOk result (λ text. string_bytes text
+            ≡ sentence_of self.now.history.now self.now.lines.now (reason_of witness.now)) }
+    {
+        match witness {
+            Witness::Interval(position) => self.interval(alloc, *position),
+            Witness::Hit(hit, puts) => self.hit(alloc, *hit, puts.as_slice()),
+            Witness::Crossed(one, other) => self.crossed(alloc, one, other),
+            Witness::Unread(unread) => self.unread(alloc, unread),
         }
     }
 

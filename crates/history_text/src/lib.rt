@@ -40,6 +40,6 @@ pub use share::Share;
 pub use text_fault::TextFault;
 pub use text_history::TextHistory;
 pub use text_reader::TextReader;
-pub use to_writer::write_text;
+pub use to_writer::{act_text, end_text, write_text};
 pub use whole_text::ReadText;
 pub use write_text_fault::WriteTextFault;

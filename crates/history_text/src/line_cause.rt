@@ -86,7 +86,7 @@ impl LineCause {
             LineCause::BadValueCode =>
                 "bad percent-encoding in the value: % must be followed by two hexadecimal digits",
             LineCause::BadValueLen =>
-                "the value must have at most 2048 bytes after percent-decoding",
+                "the value must have at most 2048 bytes after percent-decoding: record a hash of a longer one",
             LineCause::BadExpiry =>
                 "the expiry of a put must be a number below 2^63, in decimal without leading zeros: leave it out if the value never expires",
             LineCause::BadMoment =>

@@ -68,7 +68,7 @@ impl<S: BuildHasher> TextHistory<S> {
     }
 
     /// Takes the next line, of at most `MAX_TEXT_LINE_LEN` bytes, or passes over it if it is bad and may be passed over. It answers
-    /// how many lines were passed over then, if before it were so many. A bad line leaves the text as it was.
+    /// how many lines were passed over then, if before it were so many. A bad line leaves the text as it was. Its head is long for its arguments.
     pub(crate) fn take_or_skip(
         &mut self,
         alloc: Global,

@@ -76,6 +76,7 @@ impl TextReader {
     /// The calls are put after those of the text, which may be any. What the lines spell is the same as if the whole was read at
     /// once. At a bad line it stops before it, and the text has the calls of the lines before it. A failed read is `ReadFault` at once and is not
     /// tried again. It reads ahead at most 12,288 bytes, so a line that is too long is bad as soon as 8,193 bytes of it were read.
+    /// Its head is long, since each answer says what was taken, how far the input was read, and what stays.
     pub fn take_calls<S: BuildHasher, R: Read>(
         &mut self,
         alloc: Global,
@@ -118,7 +119,7 @@ impl TextReader {
         Ok(false)
     }
 
-    /// Takes the next line, and says whether there was one.
+    /// Takes the next line, and says whether there was one. Its head is long, since those of `take_calls` rest on it.
     fn take_line<S: BuildHasher, R: Read>(
         &mut self,
         alloc: Global,

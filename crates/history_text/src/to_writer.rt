@@ -35,7 +35,7 @@ fn has_text(call: &CallRef<'_>) -> bool
 }
 
 /// An end as a word: `-` of what never returned.
-fn end_text(alloc: Global, end: u64) -> Result<String, AllocError>
+pub fn end_text(alloc: Global, end: u64) -> Result<String, AllocError>
     ensures { IfOk result (λ text. string_bytes text ≡ end_text end) }
 {
     if end == NEVER {
@@ -94,8 +94,13 @@ fn bare_text(alloc: Global, front: &str, kind: &str, key: &str) -> Result<String
     format!(in alloc; "{front} {kind} {key}\n")
 }
 
-/// The line of what a call did, after what it begins with.
-fn act_text(alloc: Global, front: &str, key: &str, act: &ActRef<'_>) -> Result<String, AllocError>
+/// The line of what a call did, with its line feed, after what it begins with and the word of its key.
+pub fn act_text(
+    alloc: Global,
+    front: &str,
+    key: &str,
+    act: &ActRef<'_>,
+) -> Result<String, AllocError>
     ensures { IfOk result (λ text. string_bytes text ≡ act_text front.now key.now (act_shown act.now)) }
 {
     match act {

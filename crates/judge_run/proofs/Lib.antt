@@ -11,3 +11,4 @@ mod KeyLaws
 mod KeepLaws
 mod StreamLaws
 mod TextLaws
+mod PageLaws

@@ -6,7 +6,6 @@ use Rattle.trace_file.specs.Calls.{IsCall, time_of}
 use Rattle.trace_file.specs.declared.act.Act.{Act}
 use Rattle.trace_file.specs.declared.act.Act.TheVariants as acts
 use Rattle.trace_file.specs.declared.call.Call.{Call}
-use Rattle.history_text.specs.Text.{text_by}
 use Rattle.clock_skew.specs.Widening.{act_widened, last_stamp, later, widened}
 
 earlier_none : (stamp : ℕ) → stamp - 0 ≡ stamp
@@ -31,7 +30,6 @@ widened_none : (calls : List Call) → All IsCall calls → map (widened 0) call
 widened_none [] all = refl
 widened_none (call ∷ calls) all = ap₂ (λ c cs. c ∷ cs) (call_none call (all 0 call (omega arith))) (widened_none calls (λ k d lt. all (suc k) d (omega (arith, lt))))
 
--- a text is judged as it is if no stamp may differ
-pub as_it_is : (skew : ℕ) → skew ≡ 0 → (calls : List Call) (lines : List ℕ) (callers : List (List ℕ)) → All IsCall calls → text_by calls lines callers ≡ text_by (map (widened skew) calls) lines callers
-as_it_is skew none calls lines callers all =
-    ap (λ (cs : List Call). text_by cs lines callers) (sym (ap (λ s. map (widened s) calls) none ∙ widened_none calls all))
+-- calls are judged as they are if no stamp may differ
+pub same_widened : (skew : ℕ) → skew ≡ 0 → (calls : List Call) → All IsCall calls → calls ≡ map (widened skew) calls
+same_widened skew none calls all = sym (ap (λ s. map (widened s) calls) none ∙ widened_none calls all)

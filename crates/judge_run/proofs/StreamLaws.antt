@@ -21,16 +21,12 @@ use Rattle.judge_run.specs.declared.forgotten.Forgotten.{Forgotten}
 use Rattle.judge_run.specs.declared.kind_counts.KindCounts.{KindCounts}
 use Rattle.judge_run.specs.declared.kinds.CountedKind.{CountedKind}
 use Rattle.judge_run.specs.declared.kinds.CountedKind.TheVariants.{Put, Removal, Hit, Miss}
-use Rattle.judge_run.specs.declared.judged_text.JudgedText.{JudgedText}
-use Rattle.judge_run.specs.declared.piece_end.PieceEnd.{PieceEnd}
-use Rattle.judge_run.specs.declared.piece_end.PieceEnd.TheVariants.{Over, On}
 use Rattle.judge_run.specs.declared.scope.Scope.{Scope}
-use Rattle.judge_run.specs.declared.stream.Stream.{Stream}
 use Rattle.judge_run.specs.Kinds as kinds
 use Rattle.judge_run.specs.Kinds.{counts_in}
 use Rattle.judge_run.specs.Scopes.{IsCounted, IsWarmedIf}
 use Rattle.judge_run.specs.Streams as streams
-use Rattle.judge_run.specs.Streams.{AreCounted, IsGoing, IsGrown, IsJudgedLast, IsReadSoFar, IsStreamed, IsTaken, IsToldOf, IfOn, IfOver, added_if, was_accepted, was_decided}
+use Rattle.judge_run.specs.Streams.{AreCounted, IsGoing, IsGrown, IsJudgedLast, IsReadSoFar, IsStreamed, IsTaken, IsToldOf, added_if, was_accepted, was_decided}
 use Rattle.judge_run.proofs.WarmLaws.{puts_count}
 
 -- ---- counting
@@ -283,20 +279,10 @@ ended_so (Some bytes) (Some left) new P goes end = end
 
 -- ---- what comes of a piece
 
-pub on_map : {S H : Type 0} (end : PieceEnd S H) (P Q : Stream S H → Type 0) → ((stream : Stream S H) → P stream → Q stream) → IfOn end P → IfOn end Q
-on_map (Over told) P Q f is = is
-on_map (On stream) P Q f is = f stream is
-
-pub over_map : {S H : Type 0} (end : PieceEnd S H) (P Q : JudgedText S H → Type 0) → ((told : JudgedText S H) → P told → Q told) → IfOver end P → IfOver end Q
-over_map (Over told) P Q f is = f told is
-over_map (On stream) P Q f is = is
-
--- at a stream that goes on, and at an answer
-pub at_on : {S H : Type 0} (end : PieceEnd S H) (stream : Stream S H) (P : Stream S H → Type 0) → end ≡ On stream → IfOn end P → P stream
-at_on {S} {H} end stream P is on = subst (λ (e : PieceEnd S H). IfOn e P) is on
-
-pub at_over : {S H : Type 0} (end : PieceEnd S H) (told : JudgedText S H) (P : JudgedText S H → Type 0) → end ≡ Over told → IfOver end P → P told
-at_over {S} {H} end told P is over = subst (λ (e : PieceEnd S H). IfOver e P) is over
+-- one fact of what is told gives another one
+pub some_map : {A : Type 0} (end : Option A) (P Q : A → Type 0) → ((told : A) → P told → Q told) → IfSome end P → IfSome end Q
+some_map None P Q f is = is
+some_map (Some told) P Q f is = f told is
 
 -- a test can't be both
 pub never_accepted : (P : Type 0) (one : Bool) → one ≡ false → one ≡ true → P

@@ -22,3 +22,4 @@ pub mod FaultsTold
 pub mod CallObjects
 pub mod Xml
 pub mod Junit
+pub mod Paged

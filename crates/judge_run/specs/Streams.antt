@@ -20,12 +20,11 @@ use Rattle.judge_run.specs.declared.forgotten.Forgotten.{Forgotten}
 use Rattle.judge_run.specs.declared.kinds.CountedKind.{CountedKind}
 use Rattle.judge_run.specs.declared.kinds.CountedKind.TheVariants.{Put, Removal, Hit, Miss}
 use Rattle.judge_run.specs.declared.fault_list.FaultList.{FaultList}
-use Rattle.judge_run.specs.declared.judged_text.JudgedText.{JudgedText}
 use Rattle.judge_run.specs.declared.kind_counts.KindCounts.{KindCounts}
-use Rattle.judge_run.specs.declared.piece_end.PieceEnd.{PieceEnd}
-use Rattle.judge_run.specs.declared.piece_end.PieceEnd.TheVariants.{Over, On}
+use Rattle.judge_run.specs.declared.piece_rule.PieceRule.{PieceRule}
 use Rattle.judge_run.specs.declared.scope.Scope.{Scope}
 use Rattle.judge_run.specs.declared.stream.Stream.{Stream}
+use Rattle.judge_run.specs.declared.stream_end.StreamEnd.{StreamEnd}
 use Rattle.judge_run.specs.Listing.{IsListed}
 use Rattle.judge_run.specs.Scopes.{IsCounted, IsJudged}
 use Rattle.judge_run.specs.Kinds as kinds
@@ -249,15 +248,32 @@ pub record IsVerdict (calls : List Call) (lines : List ℕ) (what : Found) (list
   pub faults : IfRejected what (λ _. IsListed calls list)
   pub as_many : length lines ≡ length calls
 
--- a fact of the answer, if there is one
-abbrev pub IfOver : {S H : Type 0} → PieceEnd S H → (JudgedText S H → Type 0) → Type 0
-IfOver (Over judged) P = P judged
-IfOver (On stream) P = Unit {0}
+-- the calls of a stream that are judged with a piece, with their lines, and the callers so far
+abbrev pub judged_of : {S H : Type 0} → Stream S H → Text
+judged_of stream = text_by stream.text.history stream.text.lines.items stream.text.callers
 
--- a fact of the stream, if it goes on
-abbrev pub IfOn : {S H : Type 0} → PieceEnd S H → (Stream S H → Type 0) → Type 0
-IfOn (Over judged) P = Unit {0}
-IfOn (On stream) P = P stream
+-- this is held of a stream between two readings, and nothing of the next piece
+pub record IsHeld {S H : Type 0} (rule : PieceRule) (known left : Option (List ℕ)) (progress : Progress) (stream : Stream S H) : Type 0 where
+  pub going : IsGoing rule.scope rule.window rule.least known left progress (text_by stream.kept.history stream.kept.lines.items stream.text.callers) stream.waiting.history stream.waiting.lines.items stream.bound stream.latest stream.forgotten
+  pub no_calls : stream.text.history ≡ []
+  pub no_lines : stream.text.lines.items ≡ []
+
+-- a piece was read, which stands after the hits that waited
+abbrev pub IsPiece : {S H : Type 0} → PieceRule → Option (List ℕ) → Option (List ℕ) → Progress → Bool → Stream S H → Type 0
+IsPiece rule known left progress over stream = IsTaken rule.scope rule.window rule.least known left progress stream.kept.history stream.kept.lines.items (judged_of stream) stream.latest stream.forgotten over
+
+-- the calls that are judged with a piece, with so many puts that were added
+abbrev pub IsPieceJudged : {S H : Type 0} → PieceRule → Bool → Option (List ℕ) → Option (List ℕ) → Progress → Option ℕ → Stream S H → Type 0
+IsPieceJudged rule unended known left progress from_start stream = IsJudgedLast rule.scope rule.window rule.least unended known left progress (judged_of stream) stream.waiting.history stream.waiting.lines.items stream.latest stream.forgotten from_start
+
+-- what comes of a piece: the stream goes on, or its end is told
+abbrev pub IsPieceEnd : {S H : Type 0} → PieceRule → Option (List ℕ) → Option (List ℕ) → Progress → Option StreamEnd → Stream S H → Type 0
+IsPieceEnd rule known left progress None stream = IsHeld rule known left progress stream
+IsPieceEnd rule known left progress (Some told) stream = IsStreamed rule.scope rule.window rule.least known (was_accepted told.found) (was_decided told.found) (judged_of stream) told.extent
+
+-- what is told of the calls with which a stream ends is so
+abbrev pub IsEndOf : {S H : Type 0} → Stream S H → StreamEnd → Type 0
+IsEndOf stream told = IsVerdict stream.text.history stream.text.lines.items told.found told.faults
 
 -- more was forgotten: of each kind the calls that were counted before and are no longer there, and the puts that were added
 pub record IsGrown (forgotten new : Forgotten) (before after : KindCounts) (from_start : Option ℕ) : Type 0 where

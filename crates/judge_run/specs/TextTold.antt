@@ -74,6 +74,13 @@ found_begun form calls lines extent found faults =
 abbrev pub rejected_begun : Form → Text → Extent → Witness → List ToldFault → List ℕ
 rejected_begun form text extent witness faults = found_begun form text.calls text.lines extent (found.Rejected witness) faults
 
+-- the same with the calls of the reason, if the calls are rejected and the answer is an object
+abbrev pub front_of : Form → List Call → List ℕ → Extent → Found → List ToldFault → List ℕ
+front_of form calls lines extent (found.Accepted certificate) faults = found_begun form calls lines extent (found.Accepted certificate) faults
+front_of form calls lines extent (found.Rejected witness) faults =
+    with_calls form calls lines (own_of extent (length calls)) witness (found_begun form calls lines extent (found.Rejected witness) faults)
+front_of form calls lines extent (found.Undecided hits) faults = found_begun form calls lines extent (found.Undecided hits) faults
+
 -- the answer to a history of these calls with this many undecided hits
 abbrev pub undecided_answer : Form → Extent → List Call → ℕ → List ℕ
 undecided_answer form extent calls hits = answered form (undecided_text hits ++ extent_text extent) (front_rows extent calls ++ undecided_rows hits)

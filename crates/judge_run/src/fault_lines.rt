@@ -20,7 +20,7 @@ fn late_text(alloc: Global, late: Option<u64>) -> Result<String, AllocError>
 }
 
 /// The line of a fault of a history of which so many calls were recorded, with its line feed.
-fn fault_text(
+pub(crate) fn fault_text(
     alloc: Global,
     history: &History,
     lines: &[u32],

@@ -1,5 +1,5 @@
 // What of a text is kept once it is accepted.
-ghost use Rattle.std.specs.Prelude.{◌≡◌, ◌≤◌, All, IfOk, length};
+ghost use Rattle.std.specs.Prelude.{◌≡◌, ◌≤◌, All, OnOk, length};
 ghost use Rattle.history_window.specs.Streams.{IsKept};
 
 use history_text::TextHistory;
@@ -7,23 +7,31 @@ use history_window::{unsettled, window};
 use std::alloc::{AllocError, Global};
 use std::hash::BuildHasher;
 
-/// What is kept of a text at a stamp: the window of its calls, without settled hits. No call may end before it starts.
-pub(crate) fn kept_of<S: BuildHasher + Copy + Drop>(
+/// Keeps of a text what can matter at a stamp: the window of its calls, without settled hits. No call may end before it starts.
+pub(crate) fn forget<S: BuildHasher + Copy + Drop>(
     alloc: Global,
     hash_builder: S,
-    text: TextHistory<S>,
+    text: &mut TextHistory<S>,
     bound: u64,
-) -> Result<TextHistory<S>, AllocError>
-    requires { All (λ call. call.start ≤ call.end) text.history }
-    ensures kept { IfOk result (λ kept. IsKept bound text.history text.lines.items kept.history kept.lines.items) }
-    ensures callers { IfOk result (λ kept. kept.callers ≡ text.callers) }
-    ensures as_many { length text.lines.items ≡ length text.history
-        → IfOk result (λ kept. length kept.lines.items ≡ length kept.history) }
+) -> Result<(), AllocError>
+    requires { All (λ call. call.start ≤ call.end) text.old.history }
+    ensures kept { OnOk result (IsKept bound text.old.history text.old.lines.items
+        text.new.history text.new.lines.items) }
+    ensures callers { text.new.callers ≡ text.old.callers }
+    ensures as_many { length text.old.lines.items ≡ length text.old.history
+        → OnOk result (length text.new.lines.items ≡ length text.new.history) }
 {
-    let mut kept = text;
-    let stay = window(alloc, hash_builder, &kept.history, bound)?;
-    kept.keep(alloc, &stay)?;
-    let left = unsettled(alloc, hash_builder, &kept.history, bound)?;
-    kept.keep(alloc, &left)?;
-    Ok(kept)
+    let Ok(stay) = window(alloc, hash_builder, &text.history, bound) else {
+        return Err(AllocError);
+    };
+    let Ok(()) = text.keep(alloc, &stay) else {
+        return Err(AllocError);
+    };
+    let Ok(left) = unsettled(alloc, hash_builder, &text.history, bound) else {
+        return Err(AllocError);
+    };
+    match text.keep(alloc, &left) {
+        Ok(()) => Ok(()),
+        Err(refused) => Err(refused),
+    }
 }

@@ -3,8 +3,8 @@ ghost use Rattle.std.specs.Prelude.{◌≡◌, ◌≢◌, None, IfOk, IfErr, IfS
 ghost use Rattle.std.specs.Io.KnownBytes.{IsAtEnd};
 ghost use Rattle.history_text.specs.Outcome.{IsFaultOf, Left};
 ghost use Rattle.history_text.specs.Text.{text_by};
-ghost use Rattle.judge_run.specs.Scopes.{IsCounted, IsJudged};
-ghost use Rattle.judge_run.specs.Streams.{IsEndedBy, IsFaultBy, IsJudgedBy, IsLeftBy, was_accepted, was_decided};
+ghost use Rattle.judge_run.specs.Scopes.{IsCounted, IsJudged, IsWarmedIf, text_scoped};
+ghost use Rattle.judge_run.specs.Streams.{IsEndedBy, IsFaultBy, IsJudgedBy, IsLeftBy, IsVerdict, was_accepted, was_decided};
 ghost use Rattle.certificate_finder.specs.Finding.{IfRejected, IsFound};
 ghost use Rattle.judge_run.specs.Listing.{IsListed};
 
@@ -12,13 +12,13 @@ use crate::extent::Extent;
 use crate::judged_text::JudgedText;
 use crate::listing::faults_of;
 use crate::scope::Scope;
-use crate::scoping::scoped;
+use crate::scoping::widen;
+use crate::stream_end::StreamEnd;
 use crate::streaming::judge_stream;
-use crate::warmed_text::WarmedText;
-use crate::warming::warmed_if;
+use crate::warming::warm_if;
 use certificate_finder::find_with_hasher;
-use history_text::{ReadText, ReadTextFault, read_text};
-use std::alloc::Global;
+use history_text::{ReadText, ReadTextFault, TextHistory, read_text};
+use std::alloc::{AllocError, Global};
 use std::hash::BuildHasher;
 use std::io::Read;
 
@@ -89,26 +89,54 @@ fn judge_whole<S: BuildHasher + Copy + Drop, R: Read>(
         Err(fault) => return Err(fault),
     };
     let ReadText { text, skipped } = read;
-    let Ok(text) = scoped(alloc, text, scope) else {
-        return Err(ReadTextFault::OutOfMemory);
+    let mut text = text;
+    match judge_calls(alloc, hash_builder, scope, &mut text, skipped) {
+        Ok(end) => Ok(JudgedText {
+            text,
+            extent: end.extent,
+            found: end.found,
+            faults: end.faults,
+        }),
+        Err(AllocError) => Err(ReadTextFault::OutOfMemory),
+    }
+}
+
+/// Judges the calls of a text that was read whole, and of which so many bad lines were passed over.
+fn judge_calls<S: BuildHasher + Copy + Drop>(
+    alloc: Global,
+    hash_builder: S,
+    scope: Scope,
+    text: &mut TextHistory<S>,
+    skipped: u64,
+) -> Result<StreamEnd, AllocError>
+    requires { length text.old.lines.items ≡ length text.old.history }
+    ensures warmed { IfOk result (λ end. IsWarmedIf scope.warm
+        (text_scoped scope (text_by text.old.history text.old.lines.items text.old.callers))
+        (text_by text.new.history text.new.lines.items text.new.callers) end.extent.from_start) }
+    ensures skipped { IfOk result (λ end. IsCounted scope.reading.skip_bad skipped end.extent.skipped) }
+    ensures held { IfOk result (λ end. end.extent.forgotten ≡ None) }
+    ensures verdict { IfOk result (λ end.
+        IsVerdict text.new.history text.new.lines.items end.found end.faults) }
+{
+    let Ok(()) = widen(alloc, &mut text.history, scope.skew) else {
+        return Err(AllocError);
     };
-    let Ok(warm) = warmed_if(alloc, hash_builder, text, scope.warm) else {
-        return Err(ReadTextFault::OutOfMemory);
+    let Ok(from_start) = warm_if(alloc, hash_builder, text, scope.warm) else {
+        return Err(AllocError);
     };
-    let WarmedText { text, from_start } = warm;
     let Ok(found) = find_with_hasher(alloc, hash_builder, &text.history) else {
-        return Err(ReadTextFault::OutOfMemory);
+        return Err(AllocError);
     };
     let Ok(faults) = faults_of(alloc, hash_builder, &text.history, &found) else {
-        return Err(ReadTextFault::OutOfMemory);
+        return Err(AllocError);
     };
-    Ok(JudgedText {
-        text,
-        extent: Extent {
-            from_start,
-            skipped: counted(scope.reading.skip_bad, skipped),
-            forgotten: None,
-        },
+    let extent = Extent {
+        from_start,
+        skipped: counted(scope.reading.skip_bad, skipped),
+        forgotten: None,
+    };
+    Ok(StreamEnd {
+        extent,
         found,
         faults,
     })

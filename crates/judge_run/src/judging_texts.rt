@@ -1,16 +1,21 @@
 // Judging the history of a text, and telling its verdict.
-ghost use Rattle.std.specs.Prelude.{◌≡◌, ◌≢◌, true, false, IfOk, IfErr, string_bytes};
+ghost use Rattle.std.specs.Prelude.{◌≡◌, ◌≢◌, None, IfOk, IfErr, length, option_map, string_bytes};
 ghost use Rattle.certificate_finder.specs.Finding.{IfRejected, IsFound};
-ghost use Rattle.certificate_finder.specs.Witnesses.{IsWitness};
+ghost use Rattle.figures.specs.Figures.{ended};
+ghost use Rattle.history_picture.specs.Names.{names_of};
+ghost use Rattle.history_picture.specs.Reasons.{reason_of};
 ghost use Rattle.history_text.specs.Text.{text_by};
 ghost use Rattle.history_text.specs.Writing.{named};
+ghost use Rattle.judge_run.specs.FaultsTold.{listed, more_text};
+ghost use Rattle.judge_run.specs.FromStart.{start_lines};
 ghost use Rattle.judge_run.specs.Listing.{IsListed};
 ghost use Rattle.judge_run.specs.Streams.{was_accepted, was_decided};
-ghost use Rattle.judge_run.specs.TextTold.{IsHistoryTold, IsTextTold, IsTextUntold, ToldText, acceptance_of, bad_answer, rejected_begun, told_accepted, told_decided};
+ghost use Rattle.judge_run.specs.TextTold.{IsHistoryTold, IsTextTold, IsTextUntold, ToldText, acceptance_of, bad_answer, told_accepted, told_decided};
+ghost use Rattle.judge_run.specs.Paged.{IsPagedIf, page_if};
+ghost use Rattle.judge_run.specs.Told.{IsBehind};
 
 use crate::acceptance::Acceptance;
 use crate::answers::ended;
-use crate::call_objects::with_calls;
 use crate::detail::Detail;
 use crate::extent::Extent;
 use crate::extents::{own_of, recorded_of};
@@ -23,10 +28,13 @@ use crate::judging_text::judge_text;
 use crate::named_answer::named_object;
 use crate::names::copy_names;
 use crate::outcome::Outcome;
+use crate::paged_outcome::PagedOutcome;
+use crate::paged_report::PagedReport;
+use crate::paging::page_if;
 use crate::rejection::Rejection;
 use crate::scope::Scope;
 use crate::tell_fault::TellFault;
-use crate::text_answers::{bad_answer, found_begun};
+use crate::text_answers::{bad_answer, front_of};
 use certificate_finder::{Found, Witness};
 use figures::Form;
 use history_picture::Reason;
@@ -55,13 +63,49 @@ pub fn answer_judge<S: BuildHasher + Copy + Drop, R: Read, W: Write>(
     ensures err { IfErr result (λ fault. IsTextUntold form scope (R.remaining reader.old) detail (named file.entry)
         (W.contents writer.old) (W.contents writer.new) fault) }
 {
+    match answer_with_page(
+        alloc,
+        hash_builder,
+        form,
+        scope,
+        detail,
+        file,
+        reader,
+        writer,
+    ) {
+        Ok(answer) => Ok(answer.outcome),
+        Err(fault) => Err(fault),
+    }
+}
+
+/// The same, with the page of the history, if it is wanted and the text has no bad line.
+pub fn answer_with_page<S: BuildHasher + Copy + Drop, R: Read, W: Write>(
+    alloc: Global,
+    hash_builder: S,
+    form: Form,
+    scope: Scope,
+    detail: Detail,
+    file: Option<&str>,
+    reader: &mut R,
+    writer: &mut W,
+) -> Result<PagedOutcome, TellFault>
+    ensures ok { IfOk result (λ answer. ToldText form scope (R.remaining reader.old) detail (named file.entry) answer.outcome
+        (W.contents writer.old) (W.contents writer.new)) }
+    ensures page { IfOk result (λ answer. IsPagedIf scope (R.remaining reader.old) detail.page
+        answer.outcome (option_map (λ bytes. bytes.items) answer.page)) }
+    ensures err { IfErr result (λ fault. IsTextUntold form scope (R.remaining reader.old) detail (named file.entry)
+        (W.contents writer.old) (W.contents writer.new) fault) }
+{
     let told = match told_text(alloc, hash_builder, form, scope, detail, reader) {
         Ok(told) => told,
         Err(fault) => return Err(fault),
     };
     let Some(name) = file else {
         return match write_whole(writer, told.text.as_bytes()) {
-            Ok(()) => Ok(told.outcome),
+            Ok(()) => Ok(PagedOutcome {
+                outcome: told.outcome,
+                page: told.page,
+            }),
             Err(Unwritten) => Err(TellFault::WriteFault),
         };
     };
@@ -69,12 +113,15 @@ pub fn answer_judge<S: BuildHasher + Copy + Drop, R: Read, W: Write>(
         return Err(TellFault::OutOfMemory);
     };
     match write_whole(writer, &bytes) {
-        Ok(()) => Ok(told.outcome),
+        Ok(()) => Ok(PagedOutcome {
+            outcome: told.outcome,
+            page: told.page,
+        }),
         Err(Unwritten) => Err(TellFault::WriteFault),
     }
 }
 
-/// The report on a text.
+/// The report on a text, and its page, if it is wanted.
 fn told_text<S: BuildHasher + Copy + Drop, R: Read>(
     alloc: Global,
     hash_builder: S,
@@ -82,22 +129,68 @@ fn told_text<S: BuildHasher + Copy + Drop, R: Read>(
     scope: Scope,
     detail: Detail,
     reader: &mut R,
-) -> Result<JudgeReport, TellFault>
+) -> Result<PagedReport, TellFault>
     ensures ok { IfOk result (λ told.
         IsTextTold form scope (R.remaining reader.old) detail told.outcome (string_bytes told.text)) }
+    ensures page { IfOk result (λ told. IsPagedIf scope (R.remaining reader.old) detail.page
+        told.outcome (option_map (λ bytes. bytes.items) told.page)) }
     ensures err { IfErr result (λ fault. fault ≢ TellFault.WriteFault) }
 {
     match judge_text(alloc, hash_builder, scope, reader) {
-        Ok(judged) => match told_judged(alloc, form, judged, detail) {
+        Ok(judged) => match told_with_page(alloc, form, judged, detail) {
             Ok(told) => Ok(told),
             Err(AllocError) => Err(TellFault::OutOfMemory),
         },
         Err(ReadTextFault::Bad(bad)) => match told_bad_line(alloc, form, bad) {
-            Ok(told) => Ok(told),
+            Ok(told) => Ok(unpaged(told)),
             Err(AllocError) => Err(TellFault::OutOfMemory),
         },
         Err(ReadTextFault::ReadFault) => Err(TellFault::ReadFault),
         Err(ReadTextFault::OutOfMemory) => Err(TellFault::OutOfMemory),
+    }
+}
+
+/// A report without a page.
+fn unpaged(told: JudgeReport) -> PagedReport
+    ensures text { string_bytes result.text ≡ string_bytes told.text }
+    ensures outcome { result.outcome ≡ told.outcome }
+    ensures page { result.page ≡ None }
+{
+    PagedReport {
+        text: told.text,
+        outcome: told.outcome,
+        page: None,
+    }
+}
+
+/// The report on a text that was judged, and its page, if it is wanted.
+fn told_with_page<S: BuildHasher + Drop>(
+    alloc: Global,
+    form: Form,
+    judged: JudgedText<S>,
+    detail: Detail,
+) -> Result<PagedReport, AllocError>
+    requires found { IsFound judged.text.history judged.found }
+    requires faults { IfRejected judged.found (λ _. IsListed judged.text.history judged.faults) }
+    ensures told { IfOk result (λ told. IsHistoryTold form
+        (text_by judged.text.history judged.text.lines.items judged.text.callers)
+        judged.extent detail told.outcome (string_bytes told.text)) }
+    ensures accepted { IfOk result (λ told. told_accepted told.outcome ≡ was_accepted judged.found) }
+    ensures decided { IfOk result (λ told. told_decided told.outcome ≡ was_decided judged.found) }
+    ensures page { IfOk result (λ told. option_map (λ bytes. bytes.items) told.page ≡ page_if detail.page
+        (text_by judged.text.history judged.text.lines.items judged.text.callers)
+        judged.extent judged.found judged.faults.faults.items) }
+{
+    let Ok(page) = page_if(alloc, detail.page, &judged) else {
+        return Err(AllocError);
+    };
+    match told_judged(alloc, form, judged, detail) {
+        Ok(told) => Ok(PagedReport {
+            text: told.text,
+            outcome: told.outcome,
+            page,
+        }),
+        Err(refused) => Err(refused),
     }
 }
 
@@ -116,31 +209,52 @@ fn told_judged<S: BuildHasher + Drop>(
     ensures accepted { IfOk result (λ told. told_accepted told.outcome ≡ was_accepted judged.found) }
     ensures decided { IfOk result (λ told. told_decided told.outcome ≡ was_decided judged.found) }
 {
-    let text = found_begun(alloc, form, &judged)?;
+    let Ok(begun) = front_of(alloc, form, &judged) else {
+        return Err(AllocError);
+    };
     let JudgedText {
-        text: history,
+        text,
         extent,
         found,
         faults,
     } = judged;
     match found {
         Found::Accepted(certificate) => {
-            let text = ended(form, text)?;
-            let outcome = accepted_of(&extent, history.history, certificate);
-            Ok(JudgeReport { text, outcome })
+            let outcome = accepted_of(&extent, text.history, certificate);
+            match reported(form, begun, outcome) {
+                Ok(told) => Ok(told),
+                Err(refused) => Err(refused),
+            }
         }
-        Found::Rejected(witness) => match told_rejected(
-            alloc, form, text, history, &extent, witness, &faults, detail,
-        ) {
-            Ok(told) => Ok(told),
-            Err(refused) => Err(refused),
-        },
+        Found::Rejected(witness) => {
+            let recorded = own_of(&extent, text.history.len());
+            let Ok(rejection) = rejection_of(alloc, text, recorded, witness) else {
+                return Err(AllocError);
+            };
+            match told_rejected(alloc, form, begun, rejection, recorded, &faults, detail) {
+                Ok(told) => Ok(told),
+                Err(refused) => Err(refused),
+            }
+        }
         Found::Undecided(hits) => {
-            let text = ended(form, text)?;
             let outcome = Outcome::Undecided(hits.len());
-            Ok(JudgeReport { text, outcome })
+            match reported(form, begun, outcome) {
+                Ok(told) => Ok(told),
+                Err(refused) => Err(refused),
+            }
         }
     }
+}
+
+/// The report of this outcome, whose answer was begun and ends there.
+fn reported(form: Form, begun: String, outcome: Outcome) -> Result<JudgeReport, AllocError>
+    ensures outcome { IfOk result (λ told. told.outcome ≡ outcome) }
+    ensures text { IfOk result (λ told. string_bytes told.text ≡ ended form (string_bytes begun)) }
+{
+    let Ok(text) = ended(form, begun) else {
+        return Err(AllocError);
+    };
+    Ok(JudgeReport { text, outcome })
 }
 
 /// The outcome of a history that is accepted with this certificate.
@@ -155,64 +269,91 @@ fn accepted_of(extent: &Extent, history: History, certificate: Certificate) -> O
     Outcome::Accepted(Acceptance { trace, recorded })
 }
 
-/// The report on a history that is rejected, after the answer that was begun with its verdict.
-fn told_rejected<S: BuildHasher + Drop>(
+/// What is kept of a history that is rejected, of which so many calls were recorded, and why it is.
+fn rejection_of<S: BuildHasher + Drop>(
+    alloc: Global,
+    text: TextHistory<S>,
+    recorded: usize,
+    witness: Witness,
+) -> Result<Rejection, AllocError>
+    ensures text { IfOk result (λ rejection.
+        text_by rejection.history rejection.lines.items (names_of rejection.callers.items)
+        ≡ text_by text.history text.lines.items text.callers) }
+    ensures from_start { IfOk result (λ rejection.
+        rejection.from_start.items ≡ start_lines text.lines.items recorded witness) }
+    ensures reason { IfOk result (λ rejection. rejection.reason ≡ reason_of witness) }
+{
+    let Ok(from_start) = start_lines(alloc, &text.lines, recorded, &witness) else {
+        return Err(AllocError);
+    };
+    let Ok(callers) = copy_names(alloc, text.callers.names()) else {
+        return Err(AllocError);
+    };
+    Ok(Rejection {
+        history: text.history,
+        lines: text.lines,
+        callers,
+        from_start,
+        reason: Reason::of_witness(witness),
+    })
+}
+
+/// The report on a history that is rejected, after the answer that was begun with its verdict. So many calls were recorded.
+fn told_rejected(
     alloc: Global,
     form: Form,
     begun: String,
-    text: TextHistory<S>,
-    extent: &Extent,
-    witness: Witness,
+    rejection: Rejection,
+    recorded: usize,
     list: &FaultList,
     detail: Detail,
 ) -> Result<JudgeReport, AllocError>
-    requires witness { IsWitness text.history witness }
-    requires list { IsListed text.history list.now }
-    requires begun { string_bytes begun
-        ≡ rejected_begun form (text_by text.history text.lines.items text.callers) extent.now witness
-        list.now.faults.items }
-    ensures told { IfOk result (λ told. IsHistoryTold form
-        (text_by text.history text.lines.items text.callers)
-        extent.now detail told.outcome (string_bytes told.text)) }
-    ensures accepted { IfOk result (λ told. told_accepted told.outcome ≡ false) }
-    ensures decided { IfOk result (λ told. told_decided told.outcome ≡ true) }
+    ensures outcome { IfOk result (λ told. told.outcome ≡ Outcome.Rejected rejection) }
+    ensures text { IfOk result (λ told. IsBehind form detail.explain
+        (more_text (length list.now.faults.items) list.now.keys) rejection
+        (listed form detail.all rejection.history rejection.lines.items recorded list.now.faults.items
+        (string_bytes begun)) (string_bytes told.text)) }
 {
-    let recorded = own_of(extent, text.history.len());
-    let begun = with_calls(
-        alloc,
-        form,
-        begun,
-        &text.history,
-        &text.lines,
-        recorded,
-        &witness,
-    )?;
-    let from_start = start_lines(alloc, &text.lines, recorded, &witness)?;
-    let TextHistory {
-        history,
-        lines,
-        callers,
-    } = text;
-    let rejection = Rejection {
-        history,
-        lines,
-        callers: copy_names(alloc, callers.names())?,
-        from_start,
-        reason: Reason::of_witness(witness),
+    let Ok(text) = rejection_text(alloc, form, begun, &rejection, recorded, list, detail) else {
+        return Err(AllocError);
     };
-    let begun = listed(
+    let outcome = Outcome::Rejected(rejection);
+    Ok(JudgeReport { text, outcome })
+}
+
+/// The answer that was begun with a rejection, with what is wanted after it: all faults, and why the history is rejected.
+fn rejection_text(
+    alloc: Global,
+    form: Form,
+    begun: String,
+    rejection: &Rejection,
+    recorded: usize,
+    list: &FaultList,
+    detail: Detail,
+) -> Result<String, AllocError>
+    ensures { IfOk result (λ text. IsBehind form detail.explain
+        (more_text (length list.now.faults.items) list.now.keys) rejection.now
+        (listed form detail.all rejection.now.history rejection.now.lines.items recorded
+        list.now.faults.items (string_bytes begun)) (string_bytes text)) }
+{
+    let Ok(begun) = listed(
         alloc,
         form,
         detail.all,
         begun,
-        &rejection,
+        rejection,
         recorded,
         &list.faults,
-    )?;
-    let more = more_text(alloc, list.faults.len(), list.keys)?;
-    let text = rejection.told_behind(alloc, form, begun, detail.explain, more.as_str())?;
-    let outcome = Outcome::Rejected(rejection);
-    Ok(JudgeReport { text, outcome })
+    ) else {
+        return Err(AllocError);
+    };
+    let Ok(more) = more_text(alloc, list.faults.len(), list.keys) else {
+        return Err(AllocError);
+    };
+    match rejection.told_behind(alloc, form, begun, detail.explain, more.as_str()) {
+        Ok(text) => Ok(text),
+        Err(refused) => Err(refused),
+    }
 }
 
 /// The report on a text with a bad line.

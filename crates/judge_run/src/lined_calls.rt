@@ -1,4 +1,7 @@
 // Calls of a text, with their lines.
+ghost use Rattle.std.specs.Prelude.{◌≡◌, []};
+
+use std::alloc::Global;
 use trace_file::History;
 
 /// Calls of a text, with their lines.
@@ -8,4 +11,17 @@ pub(crate) struct LinedCalls {
     pub(crate) history: History,
     /// The number of the line of each.
     pub(crate) lines: Vec<u32>,
+}
+
+impl LinedCalls {
+    /// No calls.
+    pub(crate) fn new(alloc: Global) -> LinedCalls
+        ensures calls { result.history ≡ [] }
+        ensures lines { result.lines.items ≡ [] }
+    {
+        LinedCalls {
+            history: History::new(alloc),
+            lines: Vec::new(alloc),
+        }
+    }
 }

@@ -1,75 +1,67 @@
 // Parting the calls of a piece by whether they are decided.
-ghost use Rattle.std.specs.Prelude.{◌≡◌, ◌++◌, [], IfOk, length, not, true};
+ghost use Rattle.std.specs.Prelude.{◌≡◌, ◌++◌, [], IfOk, OnOk, length, not, true};
 ghost use Rattle.history_window.specs.Streams.{IsPartedIf};
 ghost use Rattle.judge_run.specs.Telling.{lines_at};
 
 use crate::lined_calls::LinedCalls;
-use crate::parted_text::PartedText;
 use crate::warming::add_line;
 use history_text::{TextHistory, history_at};
 use history_window::{past, recent};
 use std::alloc::{AllocError, Global};
 use std::hash::BuildHasher;
-use trace_file::History;
 
-/// The calls of a text that are decided at a stamp, and the hits that wait. If the input is over, none wait.
-pub(crate) fn parted_if<S: BuildHasher + Drop>(
+/// Leaves in a text the calls that are decided at a stamp, and hands out the hits that wait. If the input is over, none wait.
+pub(crate) fn part_if<S: BuildHasher + Drop>(
     alloc: Global,
-    text: TextHistory<S>,
+    text: &mut TextHistory<S>,
     over: bool,
     bound: u64,
-) -> Result<PartedText<S>, AllocError>
-    requires { length text.lines.items ≡ length text.history }
-    ensures parted { IfOk result (λ parted. IsPartedIf (not over) bound text.history text.lines.items
-        parted.text.history parted.text.lines.items
-        parted.waiting.history parted.waiting.lines.items) }
-    ensures callers { IfOk result (λ parted. parted.text.callers ≡ text.callers) }
-    ensures as_many { IfOk result (λ parted.
-        length parted.text.lines.items ≡ length parted.text.history) }
-    ensures waiting { IfOk result (λ parted.
-        length parted.waiting.lines.items ≡ length parted.waiting.history) }
+) -> Result<LinedCalls, AllocError>
+    requires { length text.old.lines.items ≡ length text.old.history }
+    ensures parted { IfOk result (λ waiting. IsPartedIf (not over) bound text.old.history text.old.lines.items
+        text.new.history text.new.lines.items waiting.history waiting.lines.items) }
+    ensures callers { text.new.callers ≡ text.old.callers }
+    ensures as_many { OnOk result (length text.new.lines.items ≡ length text.new.history) }
+    ensures waiting { IfOk result (λ waiting. length waiting.lines.items ≡ length waiting.history) }
 {
     if over {
-        return Ok(PartedText {
-            text,
-            waiting: LinedCalls {
-                history: History::new(alloc),
-                lines: Vec::new(alloc),
-            },
-        });
+        return Ok(LinedCalls::new(alloc));
     }
-    match parted(alloc, text, bound) {
-        Ok(parted) => Ok(parted),
+    match part(alloc, text, bound) {
+        Ok(waiting) => Ok(waiting),
         Err(refused) => Err(refused),
     }
 }
 
 /// The same while more may come.
-fn parted<S: BuildHasher + Drop>(
+fn part<S: BuildHasher + Drop>(
     alloc: Global,
-    text: TextHistory<S>,
+    text: &mut TextHistory<S>,
     bound: u64,
-) -> Result<PartedText<S>, AllocError>
-    requires { length text.lines.items ≡ length text.history }
-    ensures parted { IfOk result (λ parted. IsPartedIf true bound text.history text.lines.items
-        parted.text.history parted.text.lines.items
-        parted.waiting.history parted.waiting.lines.items) }
-    ensures callers { IfOk result (λ parted. parted.text.callers ≡ text.callers) }
-    ensures as_many { IfOk result (λ parted.
-        length parted.text.lines.items ≡ length parted.text.history) }
-    ensures waiting { IfOk result (λ parted.
-        length parted.waiting.lines.items ≡ length parted.waiting.history) }
+) -> Result<LinedCalls, AllocError>
+    requires { length text.old.lines.items ≡ length text.old.history }
+    ensures parted { IfOk result (λ waiting. IsPartedIf true bound text.old.history text.old.lines.items
+        text.new.history text.new.lines.items waiting.history waiting.lines.items) }
+    ensures callers { text.new.callers ≡ text.old.callers }
+    ensures as_many { OnOk result (length text.new.lines.items ≡ length text.new.history) }
+    ensures waiting { IfOk result (λ waiting. length waiting.lines.items ≡ length waiting.history) }
 {
-    let waits = recent(alloc, &text.history, bound)?;
-    let history = history_at(alloc, &text.history, &waits)?;
-    let lines = lines_of(alloc, &text.lines, &waits)?;
-    let stays = past(alloc, &text.history, bound)?;
-    let mut text = text;
-    text.keep(alloc, &stays)?;
-    Ok(PartedText {
-        text,
-        waiting: LinedCalls { history, lines },
-    })
+    let Ok(waits) = recent(alloc, &text.history, bound) else {
+        return Err(AllocError);
+    };
+    let Ok(history) = history_at(alloc, &text.history, &waits) else {
+        return Err(AllocError);
+    };
+    let Ok(lines) = lines_of(alloc, &text.lines, &waits) else {
+        return Err(AllocError);
+    };
+    let Ok(stays) = past(alloc, &text.history, bound) else {
+        return Err(AllocError);
+    };
+    match text.keep(alloc, &stays) {
+        Ok(()) => Ok(LinedCalls { history, lines }),
+        Err(refused) => Err(refused),
+    }
 }
 
 /// The lines of the calls at these positions.

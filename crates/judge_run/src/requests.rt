@@ -8,7 +8,7 @@ use trace_file::FileName;
 pub struct JudgeRequest {
     /// The file of the text; `-` is the standard input.
     pub file: FileName,
-    /// Further files, each of which is judged by itself after that one. A trace, a picture or a JUnit file would then be written for
+    /// Further files, each of which is judged by itself after that one. A trace, a picture, a JUnit file or a page would then be written for
     /// each, so that only the last would stay.
     pub others: Vec<FileName>,
     /// What is reported of a rejected history beside its verdict.
@@ -21,6 +21,8 @@ pub struct JudgeRequest {
     pub trace: Option<FileName>,
     /// The file that what came of judging is written to, as a JUnit file.
     pub junit: Option<FileName>,
+    /// The file that a page of the history is written to, if one is wanted beside the verdict.
+    pub html: Option<FileName>,
     /// How many calls an accepted history has to have.
     pub at_least: u64,
     /// What of the calls is judged. What is drawn and what is written as a trace are the calls as they are judged.

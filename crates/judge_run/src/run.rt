@@ -4,14 +4,15 @@ ghost use Rattle.figures.specs.Figures.{form_of};
 ghost use Rattle.history_text.specs.Writing.{named};
 ghost use Rattle.judge_run.specs.Inputs.{IsStandardInput};
 ghost use Rattle.judge_run.specs.Runs.{IsAskedFor, IsCheckRun, IsCheckRunOn, IsHeaded, IsJudgeRun, IsJudgeRunOn, IsNotAskedFor, IsShowRun, IsShowRunOn, JudgedFile, JudgedFiles, JudgedInTurn, ShownAs, are_several, is_headed, name_in, weight_of, worse_of};
-ghost use Rattle.judge_run.specs.Ends.{IsEnded, end_of_shown, status_of};
+ghost use Rattle.judge_run.specs.Ends.{IsEnded, IsSaved, end_of_shown, status_of};
 
 use crate::checking::answer_check;
 use crate::inputs::{input_name, is_standard_input};
 use crate::judge_end::JudgeEnd;
-use crate::judging_texts::answer_judge;
+use crate::judging_texts::answer_with_page;
 use crate::notes::{note_answer, note_bad_trace, note_few};
 use crate::outcome::Outcome;
+use crate::paged_outcome::PagedOutcome;
 use crate::requests::{CheckRequest, JudgeRequest, ShowRequest};
 use crate::saving::save;
 use crate::scope::Scope;
@@ -177,7 +178,7 @@ fn judge_from<R: AllocGlobal + Files, I: Read, O: Write, E: Write>(
         request.now.at_least (O.contents out.old) (O.contents out.new) result }
 {
     let form = Form::of(request.json);
-    let answer = answer_judge(
+    match answer_with_page(
         rt.alloc(),
         seed,
         form,
@@ -186,15 +187,47 @@ fn judge_from<R: AllocGlobal + Files, I: Read, O: Write, E: Write>(
         name_in(request, file),
         reader,
         out,
-    );
+    ) {
+        Ok(answer) => judged(rt, request, file, &answer, err).status(),
+        Err(fault) => untold(err, input_name(file), fault).status(),
+    }
+}
+
+/// How the program ends after an answer to a judging of the input of a file: what is to be saved is saved, and what failed is reported.
+fn judged<R: AllocGlobal + Files, E: Write>(
+    rt: &R,
+    request: &JudgeRequest,
+    file: &FileName,
+    answer: &PagedOutcome,
+    err: &mut E,
+) -> JudgeEnd
+    ensures { IsSaved request.now.at_least answer.now.outcome result }
+{
     let files = WantedFiles {
         trace: request.trace.as_ref(),
         picture: request.picture.as_ref(),
         junit: request.junit.as_ref(),
+        html: request.html.as_ref(),
+        page: page_in(answer),
     };
     let least = request.at_least as usize;
-    let end = settled(rt, file, &request.scope, answer, &files, least, err);
-    end.status()
+    settle(
+        rt,
+        file,
+        &request.scope,
+        &answer.outcome,
+        &files,
+        least,
+        err,
+    )
+}
+
+/// The page of an answer, if it has one.
+fn page_in(answer: &PagedOutcome) -> Option<&[u8]> {
+    match &answer.page {
+        Some(page) => Some(page.as_slice()),
+        None => None,
+    }
 }
 
 /// Whether several files are judged.
@@ -286,6 +319,8 @@ fn check_from<R: AllocGlobal + Files, I: Read, O: Write, E: Write>(
         trace: None,
         picture: request.picture.as_ref(),
         junit: None,
+        html: None,
+        page: None,
     };
     let end = settled(rt, &request.file, &Scope::WHOLE, answer, &files, 0, err);
     end.status()
@@ -305,13 +340,26 @@ fn settled<R: AllocGlobal + Files, E: Write>(
     ensures { IsEnded least answer result }
 {
     match answer {
-        Ok(outcome) => {
-            note_answer(err, input_name(file), scope, &outcome);
-            note_few(err, input_name(file), &outcome, least);
-            save(rt, files, input_name(file), &outcome, least, err)
-        }
+        Ok(outcome) => settle(rt, file, scope, &outcome, files, least, err),
         Err(fault) => untold(err, input_name(file), fault),
     }
+}
+
+/// The same of an outcome.
+fn settle<R: AllocGlobal + Files, E: Write>(
+    rt: &R,
+    file: &FileName,
+    scope: &Scope,
+    outcome: &Outcome,
+    files: &WantedFiles<'_>,
+    least: usize,
+    err: &mut E,
+) -> JudgeEnd
+    ensures { IsSaved least outcome.now result }
+{
+    note_answer(err, input_name(file), scope, outcome);
+    note_few(err, input_name(file), outcome, least);
+    save(rt, files, input_name(file), outcome, least, err)
 }
 
 /// Writes the trace in a file or of standard input as text to `out`, and answers the status that the program ends with.

@@ -48,10 +48,38 @@ fn save_each<R: AllocGlobal + Files, E: Write>(
         Ok(()) => {}
         Err(end) => return Err(end),
     }
+    match save_page(rt, files, err) {
+        Ok(()) => {}
+        Err(end) => return Err(end),
+    }
     match files.junit {
         Some(junit) => save_junit(rt, junit, name, outcome, least, err),
         None => Ok(()),
     }
+}
+
+/// Writes the page to its file, if it is wanted and one was made. The file is made if it is absent, otherwise emptied.
+fn save_page<R: AllocGlobal + Files, E: Write>(
+    rt: &R,
+    files: &WantedFiles<'_>,
+    err: &mut E,
+) -> Result<(), JudgeEnd>
+    ensures { IfErr result IsFault }
+{
+    let Some(page) = files.page else {
+        return Ok(());
+    };
+    let Some(name) = files.html else {
+        return Ok(());
+    };
+    let mut file = match fs::create(rt, name.as_str()) {
+        Ok(file) => file,
+        Err(error) => return Err(unopened(err, name, &error)),
+    };
+    if write_whole(&mut file, page).is_err() {
+        return Err(unwritten(err, name));
+    }
+    Ok(())
 }
 
 /// Writes the trace of an accepted history, or the picture of a rejected one, to its file, if that is wanted.

@@ -1,36 +1,22 @@
 // The calls that are judged of a text.
-ghost use Rattle.std.specs.Prelude.{◌≡◌, IfOk};
-ghost use Rattle.history_text.specs.Text.{text_by};
-ghost use Rattle.judge_run.specs.Scopes.{text_scoped};
+ghost use Rattle.std.specs.Prelude.{◌≡◌, OnOk, map};
+ghost use Rattle.clock_skew.specs.Widening.{widened};
 
-use crate::scope::Scope;
 use clock_skew::widened;
-use history_text::TextHistory;
 use std::alloc::{AllocError, Global};
-use std::hash::BuildHasher;
+use trace_file::History;
 
-/// The text as it is judged. With no skew nothing is copied.
-pub(crate) fn scoped<S: BuildHasher + Drop>(
-    alloc: Global,
-    text: TextHistory<S>,
-    scope: Scope,
-) -> Result<TextHistory<S>, AllocError>
-    ensures { IfOk result (λ judged. text_by judged.history judged.lines.items judged.callers
-        ≡ text_scoped scope (text_by text.history text.lines.items text.callers)) }
+/// Widens each call by the skew of the stamps: so it is judged. With no skew nothing is copied.
+pub(crate) fn widen(alloc: Global, history: &mut History, skew: u64) -> Result<(), AllocError>
+    ensures { OnOk result (history.new ≡ map (widened skew) history.old) }
 {
-    let _calls = text.history.len();
-    if scope.skew == 0 {
-        return Ok(text);
+    let _calls = history.len();
+    if skew == 0 {
+        return Ok(());
     }
-    let TextHistory {
-        history,
-        lines,
-        callers,
-    } = text;
-    let history = widened(alloc, &history, scope.skew)?;
-    Ok(TextHistory {
-        history,
-        lines,
-        callers,
-    })
+    let Ok(wider) = widened(alloc, history, skew) else {
+        return Err(AllocError);
+    };
+    *history = wider;
+    Ok(())
 }

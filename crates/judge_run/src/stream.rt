@@ -1,13 +1,15 @@
-// What is kept of a text that is read as a stream.
+// What is held of a text that is read piece by piece.
 use crate::forgotten::Forgotten;
 use crate::lined_calls::LinedCalls;
 use history_text::TextHistory;
 use std::hash::BuildHasher;
 
-/// What is kept of a text between two pieces.
+/// What is held of a text that is read piece by piece.
 #[derive(Drop)]
 pub(crate) struct Stream<S: BuildHasher> {
-    /// The calls that stand for all that were judged, with their lines, and the callers so far.
+    /// The calls that stand for all that were judged. A piece is judged with them.
+    pub(crate) kept: LinedCalls,
+    /// The calls of a piece, then all that are judged with it, and none between two pieces; and the callers so far.
     pub(crate) text: TextHistory<S>,
     /// The hits that wait for the next piece: what they read may be still to come.
     pub(crate) waiting: LinedCalls,

@@ -1,5 +1,5 @@
 // Judging a text piece by piece.
-ghost use Rattle.std.specs.Prelude.{◌≡◌, ◌-◌, ℕ, List, Option, IfErr, IfOk, IfSome, length, not, true, false};
+ghost use Rattle.std.specs.Prelude.{◌≡◌, ◌-◌, ℕ, List, Option, IfErr, IfOk, IfSome, OnOk, length, not, true, false, Some};
 ghost use Rattle.std.specs.Io.KnownBytes.{IsAtEnd};
 ghost use Rattle.certificate_finder.specs.Finding.{IfRejected, IsFound};
 ghost use Rattle.history_text.specs.Pieces.{Progress, left_of};
@@ -8,32 +8,30 @@ ghost use Rattle.history_text.specs.Text.{text_by};
 ghost use Rattle.history_window.specs.Standing.{Acceptable};
 ghost use Rattle.judge_run.specs.Listing.{IsListed};
 ghost use Rattle.judge_run.specs.Scopes.{IsCounted};
-ghost use Rattle.judge_run.specs.Streams.{IfOn, IfOver, IsGoing, IsJudgedLast, IsStreamFault, IsStreamed, IsTaken, IsVerdict, was_accepted, was_decided};
+ghost use Rattle.judge_run.specs.Streams.{IsEndOf, IsHeld, IsPiece, IsPieceEnd, IsPieceJudged, IsStreamFault, IsStreamed, judged_of, was_accepted, was_decided};
 
 use crate::extent::Extent;
-use crate::forgetting::kept_of;
+use crate::forgetting::forget;
 use crate::forgotten::Forgotten;
-use crate::judged_piece::JudgedPiece;
 use crate::judged_text::JudgedText;
 use crate::judging_text::counted;
 use crate::kind_counts::{counts_of, grown, with_waiting};
 use crate::lined_calls::LinedCalls;
 use crate::listing::faults_of;
-use crate::parted_text::PartedText;
-use crate::parting::parted_if;
-use crate::piece_end::PieceEnd;
+use crate::parting::part_if;
+use crate::piece_rule::PieceRule;
 use crate::scope::Scope;
 use crate::stream::Stream;
-use crate::taken_piece::TakenPiece;
-use crate::taking::{joined, take_piece};
-use crate::warmed_text::WarmedText;
-use crate::warming::warmed_if;
+use crate::stream_end::StreamEnd;
+use crate::taking::{put_before, take_piece};
+use crate::warming::warm_if;
 use certificate_finder::{Found, find_with_hasher, witness_excludes};
 use history_text::{ReadTextFault, TextHistory, TextReader};
 use history_window::{first_start, pieces_exclude, pieces_stand};
 use std::alloc::{AllocError, Global};
 use std::hash::BuildHasher;
 use std::io::Read;
+use std::mem::replace;
 use trace_file::History;
 
 /// Judges a text as its calls come, by pieces of at least so many calls, with a window so long, in the unit of the stamps.
@@ -62,228 +60,189 @@ pub fn judge_stream<S: BuildHasher + Copy + Drop, R: Read>(
         → IsAtEnd (R.remaining reader.new)) }
     ensures fault { IfErr result (IsStreamFault scope window least (R.remaining reader.old)) }
 {
+    let rule = PieceRule {
+        scope,
+        window,
+        least,
+    };
     let mut lines = TextReader::new(alloc, scope.reading);
     let mut stream = Stream {
+        kept: LinedCalls::new(alloc),
         text: TextHistory::new(alloc, hash_builder),
-        waiting: LinedCalls {
-            history: History::new(alloc),
-            lines: Vec::new(alloc),
-        },
+        waiting: LinedCalls::new(alloc),
         bound: 0,
         latest: 0,
         forgotten: Forgotten::NONE,
     };
+    match judge_pieces(alloc, hash_builder, rule, &mut stream, &mut lines, reader) {
+        Ok(end) => Ok(JudgedText {
+            text: stream.text,
+            extent: end.extent,
+            found: end.found,
+            faults: end.faults,
+        }),
+        Err(fault) => Err(fault),
+    }
+}
+
+/// Judges a stream piece by piece, up to its end.
+fn judge_pieces<S: BuildHasher + Copy + Drop, R: Read>(
+    alloc: Global,
+    hash_builder: S,
+    rule: PieceRule,
+    stream: &mut Stream<S>,
+    lines: &mut TextReader,
+    reader: &mut R,
+) -> Result<StreamEnd, ReadTextFault>
+    requires ahead { IsAhead lines.old.ahead (R.remaining reader.old) }
+    requires held { IsHeld rule (R.remaining reader.old) (left_of lines.old (R.remaining reader.old)) lines.old stream.old }
+    ensures streamed { IfOk result (λ end. IsStreamed rule.scope rule.window rule.least (R.remaining reader.old)
+        (was_accepted end.found) (was_decided end.found) (judged_of stream.new) end.extent) }
+    ensures verdict { IfOk result (IsEndOf stream.new) }
+    ensures whole { IfOk result (λ end. was_accepted end.found ≡ true → IsAtEnd (R.remaining reader.new)) }
+    ensures fault { IfErr result (IsStreamFault rule.scope rule.window rule.least (R.remaining reader.old)) }
+{
     for _ in 0..u64::MAX {
-        match judge_next(
-            alloc,
-            hash_builder,
-            scope,
-            window,
-            least,
-            stream,
-            &mut lines,
-            reader,
-        ) {
-            Ok(PieceEnd::Over(judged)) => return Ok(judged),
-            Ok(PieceEnd::On(kept)) => stream = kept,
+        match judge_next(alloc, hash_builder, rule, stream, lines, reader) {
+            Ok(Some(end)) => return Ok(end),
+            Ok(None) => {}
             Err(fault) => return Err(fault),
         }
     }
     Err(ReadTextFault::OutOfMemory)
 }
 
-/// Reads the next piece, and judges it.
+/// Reads the next piece, and judges it. If the stream goes on, it answers nothing.
 fn judge_next<S: BuildHasher + Copy + Drop, R: Read>(
     alloc: Global,
     hash_builder: S,
-    scope: Scope,
-    window: u64,
-    least: usize,
-    stream: Stream<S>,
+    rule: PieceRule,
+    stream: &mut Stream<S>,
     lines: &mut TextReader,
     reader: &mut R,
-) -> Result<PieceEnd<S>, ReadTextFault>
+) -> Result<Option<StreamEnd>, ReadTextFault>
     requires ahead { IsAhead lines.old.ahead (R.remaining reader.old) }
-    requires going { (known : Option (List ℕ)) × IsGoing scope window least known (left_of lines.old (R.remaining reader.old)) lines.old
-        (text_by stream.text.history stream.text.lines.items stream.text.callers)
-        stream.waiting.history stream.waiting.lines.items
-        stream.bound stream.latest stream.forgotten }
+    requires held { (known : Option (List ℕ)) × IsHeld rule known (left_of lines.old (R.remaining reader.old)) lines.old stream.old }
     ensures ahead { IsAhead lines.new.ahead (R.remaining reader.new) }
-    ensures on { IfOk result (λ end. IfOn end (λ next. (known : Option (List ℕ))
-        → IsGoing scope window least known (left_of lines.old (R.remaining reader.old)) lines.old
-        (text_by stream.text.history stream.text.lines.items stream.text.callers)
-        stream.waiting.history stream.waiting.lines.items
-        stream.bound stream.latest stream.forgotten
-        → IsGoing scope window least known (left_of lines.new (R.remaining reader.new)) lines.new
-        (text_by next.text.history next.text.lines.items next.text.callers)
-        next.waiting.history next.waiting.lines.items
-        next.bound next.latest next.forgotten)) }
-    ensures streamed { IfOk result (λ end. IfOver end (λ told. (known : Option (List ℕ))
-        → IsGoing scope window least known (left_of lines.old (R.remaining reader.old)) lines.old
-        (text_by stream.text.history stream.text.lines.items stream.text.callers)
-        stream.waiting.history stream.waiting.lines.items
-        stream.bound stream.latest stream.forgotten
-        → IsStreamed scope window least known (was_accepted told.found) (was_decided told.found)
-        (text_by told.text.history told.text.lines.items told.text.callers) told.extent)) }
-    ensures verdict { IfOk result (λ end. IfOver end (λ told.
-        IsVerdict told.text.history told.text.lines.items told.found told.faults)) }
-    ensures whole { IfOk result (λ end. IfOver end (λ told.
+    ensures judged { IfOk result (λ end. (known : Option (List ℕ))
+        → IsHeld rule known (left_of lines.old (R.remaining reader.old)) lines.old stream.old
+        → IsPieceEnd rule known (left_of lines.new (R.remaining reader.new)) lines.new end stream.new) }
+    ensures verdict { IfOk result (λ end. IfSome end (IsEndOf stream.new)) }
+    ensures whole { IfOk result (λ end. IfSome end (λ told.
         was_accepted told.found ≡ true → IsAtEnd (R.remaining reader.new))) }
     ensures fault { IfErr result (λ fault. (known : Option (List ℕ))
-        → IsGoing scope window least known (left_of lines.old (R.remaining reader.old)) lines.old
-        (text_by stream.text.history stream.text.lines.items stream.text.callers)
-        stream.waiting.history stream.waiting.lines.items
-        stream.bound stream.latest stream.forgotten
-        → IsStreamFault scope window least known fault) }
+        → IsHeld rule known (left_of lines.old (R.remaining reader.old)) lines.old stream.old
+        → IsStreamFault rule.scope rule.window rule.least known fault) }
 {
-    let taken = match take_piece(alloc, scope, least, stream, lines, reader) {
-        Ok(taken) => taken,
+    let over = match take_piece(alloc, rule, stream, lines, reader) {
+        Ok(over) => over,
         Err(fault) => return Err(fault),
     };
-    let skipped = counted(scope.reading.skip_bad, lines.skipped());
-    match judge_piece(alloc, hash_builder, scope, window, skipped, taken) {
+    let skipped = counted(rule.scope.reading.skip_bad, lines.skipped());
+    match judge_piece(alloc, hash_builder, rule, stream, over, skipped) {
         Ok(end) => Ok(end),
-        Err(_) => Err(ReadTextFault::OutOfMemory),
+        Err(AllocError) => Err(ReadTextFault::OutOfMemory),
     }
 }
 
 /// Judges the calls that are kept and those that are decided with a piece, of a text of which so many bad lines were passed over. If they
-/// are accepted and the input is not over, it forgets what can exclude nothing any more.
+/// are accepted and the input is not over, it forgets what can exclude nothing any more, and answers nothing.
 fn judge_piece<S: BuildHasher + Copy + Drop>(
     alloc: Global,
     hash_builder: S,
-    scope: Scope,
-    window: u64,
+    rule: PieceRule,
+    stream: &mut Stream<S>,
+    over: bool,
     skipped: Option<u64>,
-    taken: TakenPiece<S>,
-) -> Result<PieceEnd<S>, AllocError>
-    requires kept { length taken.kept.lines.items ≡ length taken.kept.history }
-    requires asked { length taken.text.lines.items ≡ length taken.text.history }
-    ensures on { IfOk result (λ end. IfOn end (λ stream.
-        (least : ℕ) (known left : Option (List ℕ)) (progress : Progress)
-        → IsTaken scope window least known left progress
-        taken.kept.history taken.kept.lines.items
-        (text_by taken.text.history taken.text.lines.items taken.text.callers)
-        taken.latest taken.forgotten taken.over
-        → IsGoing scope window least known left progress
-        (text_by stream.text.history stream.text.lines.items stream.text.callers)
-        stream.waiting.history stream.waiting.lines.items
-        stream.bound stream.latest stream.forgotten)) }
-    ensures streamed { IfOk result (λ end. IfOver end (λ told.
-        (least : ℕ) (known left : Option (List ℕ)) (progress : Progress)
-        → IsTaken scope window least known left progress
-        taken.kept.history taken.kept.lines.items
-        (text_by taken.text.history taken.text.lines.items taken.text.callers)
-        taken.latest taken.forgotten taken.over
-        → (taken.over ≡ true → IfSome known (λ _. IsAtEnd left))
-        → IsCounted scope.reading.skip_bad progress.skipped skipped
-        → IsStreamed scope window least known (was_accepted told.found) (was_decided told.found)
-        (text_by told.text.history told.text.lines.items told.text.callers) told.extent)) }
-    ensures verdict { IfOk result (λ end. IfOver end (λ told.
-        IsVerdict told.text.history told.text.lines.items told.found told.faults)) }
-    ensures whole { IfOk result (λ end. IfOver end (λ told.
-        was_accepted told.found ≡ true → taken.over ≡ true)) }
+) -> Result<Option<StreamEnd>, AllocError>
+    requires kept { length stream.old.kept.lines.items ≡ length stream.old.kept.history }
+    requires asked { length stream.old.text.lines.items ≡ length stream.old.text.history }
+    ensures judged { IfOk result (λ end. (known left : Option (List ℕ)) (progress : Progress)
+        → IsPiece rule known left progress over stream.old
+        → (over ≡ true → IfSome known (λ _. IsAtEnd left))
+        → IsCounted rule.scope.reading.skip_bad progress.skipped skipped
+        → IsPieceEnd rule known left progress end stream.new) }
+    ensures verdict { IfOk result (λ end. IfSome end (IsEndOf stream.new)) }
+    ensures whole { IfOk result (λ end. IfSome end (λ told. was_accepted told.found ≡ true → over ≡ true)) }
 {
-    let over = taken.over;
-    let judged = warmed_piece(alloc, hash_builder, scope.warm, window, skipped, taken)?;
-    match judge_warmed(alloc, hash_builder, over, judged) {
+    let Ok(from_start) = warm_piece(alloc, hash_builder, rule, stream, over) else {
+        return Err(AllocError);
+    };
+    match judge_warmed(alloc, hash_builder, stream, over, from_start, skipped) {
         Ok(end) => Ok(end),
         Err(refused) => Err(refused),
     }
 }
 
-/// The calls that are judged with a piece, and the puts that are added to them.
-fn warmed_piece<S: BuildHasher + Copy + Drop>(
+/// Puts together the calls that are judged with a piece, and adds puts to them. It answers how many, if that is wanted.
+fn warm_piece<S: BuildHasher + Copy + Drop>(
     alloc: Global,
     hash_builder: S,
-    wanted: bool,
-    window: u64,
-    skipped: Option<u64>,
-    taken: TakenPiece<S>,
-) -> Result<JudgedPiece<S>, AllocError>
-    requires kept { length taken.kept.lines.items ≡ length taken.kept.history }
-    requires asked { length taken.text.lines.items ≡ length taken.text.history }
-    ensures judged { IfOk result (λ judged.
-        (scope : Scope) (least : ℕ) (known left : Option (List ℕ)) (progress : Progress)
-        → scope.warm ≡ wanted
-        → IsTaken scope window least known left progress
-        taken.kept.history taken.kept.lines.items
-        (text_by taken.text.history taken.text.lines.items taken.text.callers)
-        taken.latest taken.forgotten taken.over
-        → IsJudgedLast scope window least (not taken.over) known left progress
-        (text_by judged.warm.text.history judged.warm.text.lines.items judged.warm.text.callers)
-        judged.waiting.history judged.waiting.lines.items
-        judged.latest judged.forgotten judged.warm.from_start) }
-    ensures bound { IfOk result (λ judged. judged.bound ≡ judged.latest - window) }
-    ensures as_many { IfOk result (λ judged.
-        length judged.warm.text.lines.items ≡ length judged.warm.text.history) }
-    ensures skipped { IfOk result (λ judged. judged.skipped ≡ skipped) }
+    rule: PieceRule,
+    stream: &mut Stream<S>,
+    over: bool,
+) -> Result<Option<usize>, AllocError>
+    requires kept { length stream.old.kept.lines.items ≡ length stream.old.kept.history }
+    requires asked { length stream.old.text.lines.items ≡ length stream.old.text.history }
+    ensures judged { IfOk result (λ from_start. (known left : Option (List ℕ)) (progress : Progress)
+        → IsPiece rule known left progress over stream.old
+        → IsPieceJudged rule (not over) known left progress from_start stream.new) }
+    ensures bound { OnOk result (stream.new.bound ≡ stream.new.latest - rule.window) }
+    ensures as_many { OnOk result (length stream.new.text.lines.items ≡ length stream.new.text.history) }
 {
-    let TakenPiece {
-        kept,
-        text,
-        latest,
-        forgotten,
-        over,
-    } = taken;
-    let bound = latest.saturating_sub(window);
-    let parted = parted_if(alloc, text, over, bound)?;
-    let PartedText { text, waiting } = parted;
-    let text = joined(kept, text)?;
-    let warm = warmed_if(alloc, hash_builder, text, wanted)?;
-    Ok(JudgedPiece {
-        warm,
-        waiting,
-        bound,
-        latest,
-        forgotten,
-        skipped,
-    })
+    let bound = stream.latest.saturating_sub(rule.window);
+    let Ok(waiting) = part_if(alloc, &mut stream.text, over, bound) else {
+        return Err(AllocError);
+    };
+    stream.waiting = waiting;
+    stream.bound = bound;
+    let Ok(()) = put_before(alloc, &mut stream.kept, &mut stream.text) else {
+        return Err(AllocError);
+    };
+    match warm_if(alloc, hash_builder, &mut stream.text, rule.scope.warm) {
+        Ok(from_start) => Ok(from_start),
+        Err(refused) => Err(refused),
+    }
 }
 
-/// What comes of calls to which the puts were added.
+/// What comes of calls to which so many puts were added; nothing if the stream goes on.
 fn judge_warmed<S: BuildHasher + Copy + Drop>(
     alloc: Global,
     hash_builder: S,
+    stream: &mut Stream<S>,
     over: bool,
-    judged: JudgedPiece<S>,
-) -> Result<PieceEnd<S>, AllocError>
-    requires { length judged.warm.text.lines.items ≡ length judged.warm.text.history }
-    ensures on { IfOk result (λ end. IfOn end (λ stream.
-        (scope : Scope) (window least : ℕ) (known left : Option (List ℕ)) (progress : Progress)
-        → judged.bound ≡ judged.latest - window
-        → IsJudgedLast scope window least (not over) known left progress
-        (text_by judged.warm.text.history judged.warm.text.lines.items judged.warm.text.callers)
-        judged.waiting.history judged.waiting.lines.items
-        judged.latest judged.forgotten judged.warm.from_start
-        → IsGoing scope window least known left progress
-        (text_by stream.text.history stream.text.lines.items stream.text.callers)
-        stream.waiting.history stream.waiting.lines.items
-        stream.bound stream.latest stream.forgotten)) }
-    ensures streamed { IfOk result (λ end. IfOver end (λ told.
-        (scope : Scope) (window least : ℕ) (known left : Option (List ℕ)) (progress : Progress)
-        → IsJudgedLast scope window least (not over) known left progress
-        (text_by judged.warm.text.history judged.warm.text.lines.items judged.warm.text.callers)
-        judged.waiting.history judged.waiting.lines.items
-        judged.latest judged.forgotten judged.warm.from_start
+    from_start: Option<usize>,
+    skipped: Option<u64>,
+) -> Result<Option<StreamEnd>, AllocError>
+    requires { length stream.old.text.lines.items ≡ length stream.old.text.history }
+    ensures judged { IfOk result (λ end. (rule : PieceRule) (known left : Option (List ℕ)) (progress : Progress)
+        → stream.old.bound ≡ stream.old.latest - rule.window
+        → IsPieceJudged rule (not over) known left progress from_start stream.old
         → (over ≡ true → IfSome known (λ _. IsAtEnd left))
-        → IsCounted scope.reading.skip_bad progress.skipped judged.skipped
-        → IsStreamed scope window least known (was_accepted told.found) (was_decided told.found)
-        (text_by told.text.history told.text.lines.items told.text.callers) told.extent)) }
-    ensures verdict { IfOk result (λ end. IfOver end (λ told.
-        IsVerdict told.text.history told.text.lines.items told.found told.faults)) }
-    ensures whole { IfOk result (λ end. IfOver end (λ told.
-        was_accepted told.found ≡ true → over ≡ true)) }
+        → IsCounted rule.scope.reading.skip_bad progress.skipped skipped
+        → IsPieceEnd rule known left progress end stream.new) }
+    ensures verdict { IfOk result (λ end. IfSome end (IsEndOf stream.new)) }
+    ensures whole { IfOk result (λ end. IfSome end (λ told. was_accepted told.found ≡ true → over ≡ true)) }
 {
-    let found = find_with_hasher(alloc, hash_builder, &judged.warm.text.history)?;
+    let Ok(found) = find_with_hasher(alloc, hash_builder, &stream.text.history) else {
+        return Err(AllocError);
+    };
     if !over && is_accepted(&found) {
-        return match go_on(alloc, hash_builder, judged) {
-            Ok(stream) => Ok(PieceEnd::On(stream)),
+        return match go_on(alloc, hash_builder, stream, from_start) {
+            Ok(()) => Ok(None),
             Err(refused) => Err(refused),
         };
     }
-    match told_with(alloc, hash_builder, over, judged, found) {
-        Ok(told) => Ok(PieceEnd::Over(told)),
+    match end_with(
+        alloc,
+        hash_builder,
+        stream,
+        over,
+        from_start,
+        skipped,
+        found,
+    ) {
+        Ok(end) => Ok(Some(end)),
         Err(refused) => Err(refused),
     }
 }
@@ -299,45 +258,34 @@ fn is_accepted(found: &Found) -> bool
     }
 }
 
-/// The answer, by what was found for the calls that were judged. If more may come, they are not accepted.
-fn told_with<S: BuildHasher + Copy + Drop>(
+/// The end of a stream, by what was found for the calls that were judged. If more may come, they are not accepted.
+fn end_with<S: BuildHasher + Copy + Drop>(
     alloc: Global,
     hash_builder: S,
+    stream: &Stream<S>,
     over: bool,
-    judged: JudgedPiece<S>,
+    from_start: Option<usize>,
+    skipped: Option<u64>,
     found: Found,
-) -> Result<JudgedText<S>, AllocError>
-    requires found { IsFound judged.warm.text.history found }
-    requires as_many { length judged.warm.text.lines.items ≡ length judged.warm.text.history }
+) -> Result<StreamEnd, AllocError>
+    requires found { IsFound stream.now.text.history found }
+    requires as_many { length stream.now.text.lines.items ≡ length stream.now.text.history }
     requires unaccepted { over ≡ false → was_accepted found ≡ false }
-    ensures streamed { IfOk result (λ told.
-        (scope : Scope) (window least : ℕ) (known left : Option (List ℕ)) (progress : Progress)
-        → IsJudgedLast scope window least (not over) known left progress
-        (text_by judged.warm.text.history judged.warm.text.lines.items judged.warm.text.callers)
-        judged.waiting.history judged.waiting.lines.items
-        judged.latest judged.forgotten judged.warm.from_start
+    ensures streamed { IfOk result (λ told. (rule : PieceRule) (known left : Option (List ℕ)) (progress : Progress)
+        → IsPieceJudged rule (not over) known left progress from_start stream.now
         → (over ≡ true → IfSome known (λ _. IsAtEnd left))
-        → IsCounted scope.reading.skip_bad progress.skipped judged.skipped
-        → IsStreamed scope window least known (was_accepted told.found) (was_decided told.found)
-        (text_by told.text.history told.text.lines.items told.text.callers) told.extent) }
+        → IsCounted rule.scope.reading.skip_bad progress.skipped skipped
+        → IsPieceEnd rule known left progress (Some told) stream.now) }
     ensures found { IfOk result (λ told. told.found ≡ found) }
-    ensures verdict { IfOk result (λ told.
-        IsVerdict told.text.history told.text.lines.items told.found told.faults) }
+    ensures verdict { IfOk result (IsEndOf stream.now) }
 {
     pieces_stand();
     pieces_exclude();
     witness_excludes();
-    let JudgedPiece {
-        warm,
-        waiting,
-        bound: _,
-        latest: _,
-        forgotten,
-        skipped,
-    } = judged;
-    let WarmedText { text, from_start } = warm;
-    let faults = faults_of(alloc, hash_builder, &text.history, &found)?;
-    let Some(gone) = with_waiting(forgotten, &waiting.history) else {
+    let Ok(faults) = faults_of(alloc, hash_builder, &stream.text.history, &found) else {
+        return Err(AllocError);
+    };
+    let Some(gone) = with_waiting(stream.forgotten, &stream.waiting.history) else {
         return Err(AllocError);
     };
     let extent = Extent {
@@ -345,54 +293,37 @@ fn told_with<S: BuildHasher + Copy + Drop>(
         skipped,
         forgotten: Some(gone),
     };
-    Ok(JudgedText {
-        text,
+    Ok(StreamEnd {
         extent,
         found,
         faults,
     })
 }
 
-/// What is kept of calls that are accepted, with the hits that wait.
+/// Keeps what can matter of calls that are accepted, to which so many puts were added.
 fn go_on<S: BuildHasher + Copy + Drop>(
     alloc: Global,
     hash_builder: S,
-    judged: JudgedPiece<S>,
-) -> Result<Stream<S>, AllocError>
-    requires { Acceptable judged.warm.text.history }
-    ensures { IfOk result (λ stream.
-        (scope : Scope) (window least : ℕ) (known left : Option (List ℕ)) (progress : Progress)
-        → judged.bound ≡ judged.latest - window
-        → IsJudgedLast scope window least true known left progress
-        (text_by judged.warm.text.history judged.warm.text.lines.items judged.warm.text.callers)
-        judged.waiting.history judged.waiting.lines.items
-        judged.latest judged.forgotten judged.warm.from_start
-        → IsGoing scope window least known left progress
-        (text_by stream.text.history stream.text.lines.items stream.text.callers)
-        stream.waiting.history stream.waiting.lines.items
-        stream.bound stream.latest stream.forgotten) }
+    stream: &mut Stream<S>,
+    from_start: Option<usize>,
+) -> Result<(), AllocError>
+    requires { Acceptable stream.old.text.history }
+    ensures { OnOk result ((rule : PieceRule) (known left : Option (List ℕ)) (progress : Progress)
+        → stream.old.bound ≡ stream.old.latest - rule.window
+        → IsPieceJudged rule true known left progress from_start stream.old
+        → IsHeld rule known left progress stream.new) }
 {
-    let JudgedPiece {
-        warm,
-        waiting,
-        bound,
-        latest,
-        forgotten,
-        skipped: _,
-    } = judged;
-    let first = first_start(&waiting.history, bound);
-    let WarmedText { text, from_start } = warm;
-    let before = counts_of(&text.history);
-    let text = kept_of(alloc, hash_builder, text, first)?;
-    let after = counts_of(&text.history);
-    match grown(forgotten, &before, &after, from_start) {
-        Some(forgotten) => Ok(Stream {
-            text,
-            waiting,
-            bound,
-            latest,
-            forgotten,
-        }),
-        None => Err(AllocError),
-    }
+    let first = first_start(&stream.waiting.history, stream.bound);
+    let before = counts_of(&stream.text.history);
+    let Ok(()) = forget(alloc, hash_builder, &mut stream.text, first) else {
+        return Err(AllocError);
+    };
+    let after = counts_of(&stream.text.history);
+    let Some(forgotten) = grown(stream.forgotten, &before, &after, from_start) else {
+        return Err(AllocError);
+    };
+    stream.forgotten = forgotten;
+    stream.kept.history = replace(&mut stream.text.history, History::new(alloc));
+    stream.kept.lines = replace(&mut stream.text.lines, Vec::new(alloc));
+    Ok(())
 }

@@ -61,7 +61,7 @@ fn tell_counts(
 }
 
 /// How many calls that are held of a text that was judged are its own.
-fn own_in<S: BuildHasher>(judged: &JudgedText<S>) -> usize
+pub(crate) fn own_in<S: BuildHasher>(judged: &JudgedText<S>) -> usize
     ensures { result ≡ own_of judged.now.extent (length judged.now.text.history) }
 {
     own_of(&judged.extent, judged.text.history.len())

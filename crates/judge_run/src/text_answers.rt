@@ -5,13 +5,15 @@ ghost use Rattle.figures.specs.Figures.{with_rows};
 ghost use Rattle.judge_run.specs.Extents.{extent_text};
 ghost use Rattle.judge_run.specs.FoundRows.{found_rows};
 ghost use Rattle.judge_run.specs.Listing.{IsListed};
-ghost use Rattle.judge_run.specs.TextTold.{bad_answer, bad_line_rows, found_begun};
+ghost use Rattle.judge_run.specs.TextTold.{bad_answer, bad_line_rows, found_begun, front_of};
 ghost use Rattle.judge_run.specs.VerdictText.{verdict_text};
 
+use crate::call_objects::with_calls;
 use crate::extents::extent_text;
 use crate::judged_text::JudgedText;
 use crate::telling_found::verdict_text;
-use crate::telling_rows::tell_found;
+use crate::telling_rows::{own_in, tell_found};
+use certificate_finder::Found;
 use figures::{Figure, Form};
 use history_text::BadLine;
 use std::alloc::{AllocError, Global};
@@ -40,8 +42,47 @@ pub(crate) fn found_begun<S: BuildHasher>(
     }
 }
 
+/// The same with the calls of the reason, if the text is rejected and the answer is an object.
+pub(crate) fn front_of<S: BuildHasher>(
+    alloc: Global,
+    form: Form,
+    judged: &JudgedText<S>,
+) -> Result<String, AllocError>
+    requires { IfRejected judged.now.found (λ _. IsListed judged.now.text.history judged.now.faults) }
+    ensures { IfOk result (λ text. string_bytes text
+        ≡ front_of form judged.now.text.history judged.now.text.lines.items judged.now.extent
+        judged.now.found judged.now.faults.faults.items) }
+{
+    let Ok(begun) = found_begun(alloc, form, judged) else {
+        return Err(AllocError);
+    };
+    match &judged.found {
+        Found::Rejected(witness) => {
+            let recorded = own_in(judged);
+            let history = &judged.text.history;
+            match with_calls(
+                alloc,
+                form,
+                begun,
+                history,
+                &judged.text.lines,
+                recorded,
+                witness,
+            ) {
+                Ok(text) => Ok(text),
+                Err(refused) => Err(refused),
+            }
+        }
+        Found::Accepted(_) => Ok(begun),
+        Found::Undecided(_) => Ok(begun),
+    }
+}
+
 /// The lines that tell what was found, and how what was judged differs from what the text spells.
-fn lines_of<S: BuildHasher>(alloc: Global, judged: &JudgedText<S>) -> Result<String, AllocError>
+pub(crate) fn lines_of<S: BuildHasher>(
+    alloc: Global,
+    judged: &JudgedText<S>,
+) -> Result<String, AllocError>
     ensures { IfOk result (λ text. string_bytes text
         ≡ verdict_text judged.now.text.history judged.now.text.lines.items judged.now.extent
         judged.now.found ++ extent_text judged.now.extent) }

@@ -10,4 +10,8 @@ pub(crate) struct WantedFiles<'a> {
     pub(crate) picture: Option<&'a FileName>,
     /// The file that what came of judging is written to as JUnit has it.
     pub(crate) junit: Option<&'a FileName>,
+    /// The file that the page is written to.
+    pub(crate) html: Option<&'a FileName>,
+    /// The page, if one was made.
+    pub(crate) page: Option<&'a [u8]>,
 }

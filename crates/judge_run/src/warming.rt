@@ -1,71 +1,61 @@
 // The text whose cache was filled before it begins.
-ghost use Rattle.std.specs.Prelude.{◌≡◌, ◌++◌, ◌∷◌, [], IfOk, OnOk, length, true};
+ghost use Rattle.std.specs.Prelude.{◌≡◌, ◌++◌, ◌∷◌, [], IfOk, OnOk, Some, length, true};
 ghost use Rattle.history_text.specs.Text.{text_by};
 ghost use Rattle.judge_run.specs.Scopes.{IsWarmedIf};
 ghost use Rattle.judge_run.specs.Telling.{lines_at};
 
-use crate::warmed_text::WarmedText;
-use certificate_finder::{Warmed, warm_with_hasher};
+use certificate_finder::warm_with_hasher;
 use history_text::TextHistory;
 use std::alloc::{AllocError, Global};
 use std::hash::BuildHasher;
+use std::mem::replace;
+use trace_file::History;
 
-/// The text with a put more for each value that is taken as there from the start, if that is wanted.
-pub(crate) fn warmed_if<S: BuildHasher + Copy + Drop>(
+/// Adds a put to a text for each value that is taken as there from the start, if that is wanted, and answers how many those are.
+pub(crate) fn warm_if<S: BuildHasher + Copy + Drop>(
     alloc: Global,
     hash_builder: S,
-    text: TextHistory<S>,
+    text: &mut TextHistory<S>,
     wanted: bool,
-) -> Result<WarmedText<S>, AllocError>
-    requires { length text.lines.items ≡ length text.history }
-    ensures warmed { IfOk result (λ warm. IsWarmedIf wanted
-        (text_by text.history text.lines.items text.callers)
-        (text_by warm.text.history warm.text.lines.items warm.text.callers) warm.from_start) }
-    ensures as_many { IfOk result (λ warm.
-        length warm.text.lines.items ≡ length warm.text.history) }
+) -> Result<Option<usize>, AllocError>
+    requires { length text.old.lines.items ≡ length text.old.history }
+    ensures warmed { IfOk result (IsWarmedIf wanted
+        (text_by text.old.history text.old.lines.items text.old.callers)
+        (text_by text.new.history text.new.lines.items text.new.callers)) }
+    ensures as_many { OnOk result (length text.new.lines.items ≡ length text.new.history) }
 {
     if !wanted {
-        return Ok(WarmedText {
-            text,
-            from_start: None,
-        });
+        return Ok(None);
     }
-    match warmed(alloc, hash_builder, text) {
-        Ok(warm) => Ok(warm),
+    match warm(alloc, hash_builder, text) {
+        Ok(values) => Ok(Some(values)),
         Err(refused) => Err(refused),
     }
 }
 
 /// The same if it is wanted.
-fn warmed<S: BuildHasher + Copy + Drop>(
+fn warm<S: BuildHasher + Copy + Drop>(
     alloc: Global,
     hash_builder: S,
-    text: TextHistory<S>,
-) -> Result<WarmedText<S>, AllocError>
-    requires { length text.lines.items ≡ length text.history }
-    ensures warmed { IfOk result (λ warm. IsWarmedIf true
-        (text_by text.history text.lines.items text.callers)
-        (text_by warm.text.history warm.text.lines.items warm.text.callers) warm.from_start) }
-    ensures as_many { IfOk result (λ warm.
-        length warm.text.lines.items ≡ length warm.text.history) }
+    text: &mut TextHistory<S>,
+) -> Result<usize, AllocError>
+    requires { length text.old.lines.items ≡ length text.old.history }
+    ensures warmed { IfOk result (λ values. IsWarmedIf true
+        (text_by text.old.history text.old.lines.items text.old.callers)
+        (text_by text.new.history text.new.lines.items text.new.callers) (Some values)) }
+    ensures as_many { OnOk result (length text.new.lines.items ≡ length text.new.history) }
 {
-    let TextHistory {
-        history,
-        lines,
-        callers,
-    } = text;
-    let warm = warm_with_hasher(alloc, hash_builder, history)?;
-    let Warmed { history, hits } = warm;
-    let lines = with_lines(alloc, &lines, &hits)?;
-    let text = TextHistory {
-        history,
-        lines,
-        callers,
+    let history = replace(&mut text.history, History::new(alloc));
+    let Ok(warm) = warm_with_hasher(alloc, hash_builder, history) else {
+        return Err(AllocError);
     };
-    Ok(WarmedText {
-        text,
-        from_start: Some(hits.len()),
-    })
+    let Ok(lines) = with_lines(alloc, &text.lines, &warm.hits) else {
+        return Err(AllocError);
+    };
+    let values = warm.hits.len();
+    text.history = warm.history;
+    text.lines = lines;
+    Ok(values)
 }
 
 /// Lines, and after them those of the calls at these positions.

@@ -1,4 +1,5 @@
 pub mod Held
 pub mod Telling
+pub mod Turning
 pub mod Sizing
 pub mod Lent

@@ -4,13 +4,16 @@ ghost use Rattle.record_pages.specs.Bounded.{IsKey};
 ghost use Rattle.c_lane.specs.Getting.{Answers, AnswersOrLeases, LeasesKey, RefusesGet};
 ghost use Rattle.c_lane.specs.declared.status.Status.{Status};
 ghost use Rattle.c_lane.specs.Putting.{Puts, PutsOrRemoves, FillsOrNot, RemovesKey};
-ghost use Rattle.kangaroo_c.specs.Telling.{IsFull, Tells, TellsDue, TellsOpening, page_laws};
+ghost use Rattle.kangaroo_c.specs.Telling.{IsFull, IsForeign, IsHere, IsPassedOver, Tells, TellsDue, TellsOpening, page_laws};
 
 use crate::handle::Handle;
-use crate::keeping::{open_in, put_back, take_lane};
+use crate::keeping::{open_in, put_back, take_lane, take_lane_of};
 use crate::lent_pages::LentPages;
 use c_lane::{Hit, LaneShape, Seed};
 use std::alloc::Global;
+
+/// What each of the calls on a key answers if the key is another lane's: no status is this number. It does nothing then.
+const OTHER_LANE: i32 = -1000;
 
 /// Opens an empty lane over pages that C lends, and puts it into an empty place; or leaves the place empty, and the pages are C's
 /// again.
@@ -49,14 +52,18 @@ pub extern "C" fn kl_get(
     hit: &mut Hit,
 ) -> i32
     requires { IsFull lane.old.lane }
-    ensures answered { IsKey key.now → Tells
+    ensures other_lane { IsForeign lane.old.lane key.now →
+        IsPassedOver result lane.old.lane lane.new.lane × (into.new ≡ into.old) × (hit.new ≡ hit.old) }
+    ensures answered { IsHere lane.old.lane key.now → IsKey key.now → Tells
         (λ status old new. Answers page_laws key.now moment into.old old status new into.new hit.new)
         result lane.old.lane lane.new.lane }
     ensures wrong_key { (IsKey key.now → ⊥) → Tells
         (λ status old new. RefusesGet into.old old status new into.new hit.new)
         result lane.old.lane lane.new.lane }
 {
-    let mut kept = take_lane(alloc, lane);
+    let Some(mut kept) = take_lane_of(alloc, lane, key) else {
+        return OTHER_LANE;
+    };
     let status = kept.lane.get(key, moment, into, hit);
     put_back(lane, kept);
     status.number()
@@ -74,7 +81,9 @@ pub extern "C" fn kl_get_or_lease(
     writes: &mut u64,
 ) -> i32
     requires { IsFull lane.old.lane }
-    ensures answered { IsKey key.now → Tells
+    ensures other_lane { IsForeign lane.old.lane key.now →
+        IsPassedOver result lane.old.lane lane.new.lane × (into.new ≡ into.old) × (hit.new ≡ hit.old) × (writes.new ≡ writes.old) }
+    ensures answered { IsHere lane.old.lane key.now → IsKey key.now → Tells
         (λ status old new. AnswersOrLeases page_laws key.now moment into.old writes.old old
         status new into.new hit.new writes.new)
         result lane.old.lane lane.new.lane }
@@ -83,7 +92,9 @@ pub extern "C" fn kl_get_or_lease(
         result lane.old.lane lane.new.lane }
     ensures no_lease { (IsKey key.now → ⊥) → writes.new ≡ writes.old }
 {
-    let mut kept = take_lane(alloc, lane);
+    let Some(mut kept) = take_lane_of(alloc, lane, key) else {
+        return OTHER_LANE;
+    };
     let status = kept.lane.get_or_lease(key, moment, into, hit, writes);
     put_back(lane, kept);
     status.number()
@@ -93,13 +104,18 @@ pub extern "C" fn kl_get_or_lease(
 #[unsafe(no_mangle)]
 pub extern "C" fn kl_lease(alloc: Global, lane: &mut Handle, key: &[u8], writes: &mut u64) -> i32
     requires { IsFull lane.old.lane }
-    ensures leased { IsKey key.now → Tells (λ status old new. LeasesKey key.now old status new writes.new)
+    ensures other_lane { IsForeign lane.old.lane key.now →
+        IsPassedOver result lane.old.lane lane.new.lane × (writes.new ≡ writes.old) }
+    ensures leased { IsHere lane.old.lane key.now → IsKey key.now → Tells
+        (λ status old new. LeasesKey key.now old status new writes.new)
         result lane.old.lane lane.new.lane }
     ensures wrong_key { (IsKey key.now → ⊥) → Tells
         (λ status old new. (status ≡ Status.WrongKey) × (new ≡ old) × (writes.new ≡ writes.old))
         result lane.old.lane lane.new.lane }
 {
-    let mut kept = take_lane(alloc, lane);
+    let Some(mut kept) = take_lane_of(alloc, lane, key) else {
+        return OTHER_LANE;
+    };
     let status = kept.lane.lease(key, writes);
     put_back(lane, kept);
     status.number()
@@ -116,11 +132,16 @@ pub extern "C" fn kl_put(
     is_due: &mut u32,
 ) -> i32
     requires { IsFull lane.old.lane }
-    ensures put { Tells (λ status old new. Puts page_laws key.now value.now expires old status new)
+    ensures other_lane { IsForeign lane.old.lane key.now →
+        IsPassedOver result lane.old.lane lane.new.lane × (is_due.new ≡ is_due.old) }
+    ensures put { IsHere lane.old.lane key.now → Tells
+        (λ status old new. Puts page_laws key.now value.now expires old status new)
         result lane.old.lane lane.new.lane }
-    ensures due { TellsDue is_due.new lane.new.lane }
+    ensures due { IsHere lane.old.lane key.now → TellsDue is_due.new lane.new.lane }
 {
-    let mut kept = take_lane(alloc, lane);
+    let Some(mut kept) = take_lane_of(alloc, lane, key) else {
+        return OTHER_LANE;
+    };
     let status = kept.lane.put(alloc, key, value, expires);
     *is_due = u32::from(kept.lane.is_due());
     put_back(lane, kept);
@@ -138,11 +159,16 @@ pub extern "C" fn kl_put_or_remove(
     is_due: &mut u32,
 ) -> i32
     requires { IsFull lane.old.lane }
-    ensures put { Tells (λ status old new. PutsOrRemoves page_laws key.now value.now expires old status new)
+    ensures other_lane { IsForeign lane.old.lane key.now →
+        IsPassedOver result lane.old.lane lane.new.lane × (is_due.new ≡ is_due.old) }
+    ensures put { IsHere lane.old.lane key.now → Tells
+        (λ status old new. PutsOrRemoves page_laws key.now value.now expires old status new)
         result lane.old.lane lane.new.lane }
-    ensures due { TellsDue is_due.new lane.new.lane }
+    ensures due { IsHere lane.old.lane key.now → TellsDue is_due.new lane.new.lane }
 {
-    let mut kept = take_lane(alloc, lane);
+    let Some(mut kept) = take_lane_of(alloc, lane, key) else {
+        return OTHER_LANE;
+    };
     let status = kept.lane.put_or_remove(alloc, key, value, expires);
     *is_due = u32::from(kept.lane.is_due());
     put_back(lane, kept);
@@ -161,11 +187,16 @@ pub extern "C" fn kl_fill(
     is_due: &mut u32,
 ) -> i32
     requires { IsFull lane.old.lane }
-    ensures filled { Tells (λ status old new. FillsOrNot page_laws writes key.now value.now expires old status new)
+    ensures other_lane { IsForeign lane.old.lane key.now →
+        IsPassedOver result lane.old.lane lane.new.lane × (is_due.new ≡ is_due.old) }
+    ensures filled { IsHere lane.old.lane key.now → Tells
+        (λ status old new. FillsOrNot page_laws writes key.now value.now expires old status new)
         result lane.old.lane lane.new.lane }
-    ensures due { TellsDue is_due.new lane.new.lane }
+    ensures due { IsHere lane.old.lane key.now → TellsDue is_due.new lane.new.lane }
 {
-    let mut kept = take_lane(alloc, lane);
+    let Some(mut kept) = take_lane_of(alloc, lane, key) else {
+        return OTHER_LANE;
+    };
     let status = kept.lane.fill(alloc, writes, key, value, expires);
     *is_due = u32::from(kept.lane.is_due());
     put_back(lane, kept);
@@ -176,10 +207,14 @@ pub extern "C" fn kl_fill(
 #[unsafe(no_mangle)]
 pub extern "C" fn kl_remove(alloc: Global, lane: &mut Handle, key: &[u8]) -> i32
     requires { IsFull lane.old.lane }
-    ensures { Tells (λ status old new. RemovesKey page_laws key.now old status new)
+    ensures other_lane { IsForeign lane.old.lane key.now → IsPassedOver result lane.old.lane lane.new.lane }
+    ensures removed { IsHere lane.old.lane key.now → Tells
+        (λ status old new. RemovesKey page_laws key.now old status new)
         result lane.old.lane lane.new.lane }
 {
-    let mut kept = take_lane(alloc, lane);
+    let Some(mut kept) = take_lane_of(alloc, lane, key) else {
+        return OTHER_LANE;
+    };
     let status = kept.lane.remove(key);
     put_back(lane, kept);
     status.number()

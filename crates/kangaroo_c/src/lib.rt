@@ -17,3 +17,4 @@ mod sessions;
 mod sizes;
 mod tending;
 mod traces;
+mod turns;

@@ -9,4 +9,7 @@ pub mod StepFlags
 pub mod Announcing
 pub mod MetaLines
 pub mod Blocks
+pub mod PrintedWords
+pub mod PrintedRequests
+pub mod PrintedStreams
 pub mod public_laws

@@ -55,7 +55,7 @@ place_none p xs is = elim (cases_Bool (nat_lt (position_or_len p xs) (length xs)
       omega (arith, most, end)
 ]
 
-place_at : (p : ℕ → Bool) (xs : List ℕ) (i : ℕ) → position_or_len p xs ≡ i → i < length xs → position p xs ≡ Some i
+pub place_at : (p : ℕ → Bool) (xs : List ℕ) (i : ℕ) → position_or_len p xs ≡ i → i < length xs → position p xs ≡ Some i
 place_at p xs i same less =
     let holds : nat_lt (position_or_len p xs) (length xs) ≡ true = lt-ltb _ _ (omega (arith, same, less)) in
     rw holds (ap Some same)

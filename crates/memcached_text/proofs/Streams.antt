@@ -59,7 +59,7 @@ counted most (suc n) (suc m) state bytes less other =
     events_step n most state bytes ∙ same_by n m most step bytes rest ∙ sym (events_step m most state bytes)
 
 -- a step that gives nothing, or what is after it, has the same events
-later : (most : ℕ) (state : ReaderState) (bytes more : List ℕ) → events_of most state (bytes ++ more) ≡ events_of most (passing state bytes).state (drop (passing state bytes).count bytes ++ more)
+pub later : (most : ℕ) (state : ReaderState) (bytes more : List ℕ) → events_of most state (bytes ++ more) ≡ events_of most (passing state bytes).state (drop (passing state bytes).count bytes ++ more)
 unfolding events_of
 later most state bytes more =
     let k = passing state bytes in

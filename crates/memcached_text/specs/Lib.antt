@@ -12,3 +12,4 @@ pub mod Steps
 pub mod StepsShown
 pub mod Limits
 pub mod Blocks
+pub mod Printing

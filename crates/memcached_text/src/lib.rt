@@ -26,7 +26,7 @@ mod writing;
 
 pub use exptime::Exptime;
 pub use fixed_reply::FixedReply;
-pub use laws::no_block_is_read;
+pub use laws::{no_block_is_read, requests_read_back};
 pub use line_error::LineError;
 pub use line_refusal::{LineRefusal, RefusedBlock};
 pub use meta_answer::{MetaAnswer, MetaFields, MetaMarks, MetaStatus, Ttl};

@@ -1,5 +1,5 @@
 //! When a recorded lane, a world and a shared cache are opened. Each refusal comes when all after it apply too.
-use super::texts::{caller_of, config_of, is};
+use super::texts::caller_of;
 use history_recorder::{OpenWorldFault, World};
 use mover::OpenFault;
 use page_device::MemoryDevice;
@@ -9,7 +9,7 @@ use rriparoo::Rriparoo;
 use shared_cache::{OpenCacheFault, SharedCache};
 use std::alloc::Global;
 use std::test::Fail;
-use test_devices::{Scripted, Step, run_text};
+use test_devices::{Scripted, Step, is, run_text};
 
 /// Openings of a lane, a world or a cache over pages of 128 bytes or of 256.
 #[derive(Drop)]
@@ -36,7 +36,7 @@ impl Scripted for Openings {
             devices: step.small(),
             pages: step.small(),
             callers: caller_of(step),
-            config: config_of(step),
+            config: step.config(),
         };
         step.tell(if is_narrow {
             opened::<128>(alloc, word, &asked)?
@@ -55,7 +55,7 @@ fn opened<const PAGE: usize>(
 ) -> Result<&'static [u8], Fail> {
     let devices = devices::<PAGE>(alloc, asked)?;
     if is(word, b"lane") {
-        return lane(alloc, asked, devices);
+        return lane_of_last(alloc, asked, devices);
     }
     if is(word, b"world") {
         return Ok(world(alloc, asked, devices));
@@ -78,25 +78,39 @@ fn devices<const PAGE: usize>(
 }
 
 // Opens the first lane over the last device.
-fn lane<const PAGE: usize>(
+fn lane_of_last<const PAGE: usize>(
     alloc: Global,
     asked: &Asked,
     devices: Vec<MemoryDevice<PAGE>>,
 ) -> Result<&'static [u8], Fail> {
     let mut devices = devices;
-    let Some(device) = devices.pop() else {
-        return Err("a device".into());
-    };
-    if asked.config.lanes == 0 {
-        return Err("a lane that is not there".into());
+    match devices.pop() {
+        Some(device) => Ok(lane(alloc, &asked.config, device)),
+        None => Err("a device".into()),
     }
-    Ok(match RecordedLane::open(alloc, &asked.config, 0, device) {
+}
+
+fn lane<const PAGE: usize>(
+    alloc: Global,
+    config: &Config,
+    device: MemoryDevice<PAGE>,
+) -> &'static [u8] {
+    if config.lanes == 0 {
+        return b"no lane";
+    }
+    match RecordedLane::open(alloc, config, 0, device) {
         Ok(_) => b"opened",
-        Err(OpenFault::ConfigFault { field }) => name_of_field(field),
-        Err(OpenFault::WrongPage) => b"wrong page",
-        Err(OpenFault::DeviceTooSmall) => b"device too small",
-        Err(OpenFault::OutOfMemory) => b"out of memory",
-    })
+        Err(fault) => name_of_lane_fault(fault),
+    }
+}
+
+fn name_of_lane_fault(fault: OpenFault) -> &'static [u8] {
+    match fault {
+        OpenFault::ConfigFault { field } => name_of_field(field),
+        OpenFault::WrongPage => b"wrong page",
+        OpenFault::DeviceTooSmall => b"device too small",
+        OpenFault::OutOfMemory => b"out of memory",
+    }
 }
 
 fn world<const PAGE: usize>(
@@ -106,12 +120,18 @@ fn world<const PAGE: usize>(
 ) -> &'static [u8] {
     match World::open(alloc, &asked.config, devices, asked.callers) {
         Ok(_) => b"opened",
-        Err(OpenWorldFault::ConfigFault { field }) => name_of_field(field),
-        Err(OpenWorldFault::NoCallers) => b"no callers",
-        Err(OpenWorldFault::DeviceCount) => b"device count",
-        Err(OpenWorldFault::WrongPage) => b"wrong page",
-        Err(OpenWorldFault::DeviceTooSmall) => b"device too small",
-        Err(OpenWorldFault::OutOfMemory) => b"out of memory",
+        Err(fault) => name_of_world_fault(fault),
+    }
+}
+
+fn name_of_world_fault(fault: OpenWorldFault) -> &'static [u8] {
+    match fault {
+        OpenWorldFault::ConfigFault { field } => name_of_field(field),
+        OpenWorldFault::NoCallers => b"no callers",
+        OpenWorldFault::DeviceCount => b"device count",
+        OpenWorldFault::WrongPage => b"wrong page",
+        OpenWorldFault::DeviceTooSmall => b"device too small",
+        OpenWorldFault::OutOfMemory => b"out of memory",
     }
 }
 
@@ -122,12 +142,18 @@ fn cache<const PAGE: usize>(
 ) -> &'static [u8] {
     match SharedCache::open(alloc, &asked.config, devices, Rriparoo, asked.callers) {
         Ok(_) => b"opened",
-        Err(OpenCacheFault::ConfigFault(field)) => name_of_field(field),
-        Err(OpenCacheFault::NoCallers) => b"no callers",
-        Err(OpenCacheFault::DeviceCount) => b"device count",
-        Err(OpenCacheFault::WrongPage) => b"wrong page",
-        Err(OpenCacheFault::DeviceTooSmall) => b"device too small",
-        Err(OpenCacheFault::OutOfMemory) => b"out of memory",
+        Err(fault) => name_of_cache_fault(fault),
+    }
+}
+
+fn name_of_cache_fault(fault: OpenCacheFault) -> &'static [u8] {
+    match fault {
+        OpenCacheFault::ConfigFault(field) => name_of_field(field),
+        OpenCacheFault::NoCallers => b"no callers",
+        OpenCacheFault::DeviceCount => b"device count",
+        OpenCacheFault::WrongPage => b"wrong page",
+        OpenCacheFault::DeviceTooSmall => b"device too small",
+        OpenCacheFault::OutOfMemory => b"out of memory",
     }
 }
 

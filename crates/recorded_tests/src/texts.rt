@@ -1,27 +1,8 @@
 //! What the texts of all parts have alike.
 use klog::Flushed;
-use record_pages::{Answer, Config, MissCause, NEVER, Pushed, Tier};
+use record_pages::{Answer, MissCause, NEVER, Pushed, Tier};
 use test_devices::Step;
 use trace_file::ActRef;
-
-/// Whether a word is this one.
-pub fn is(word: &[u8], name: &[u8]) -> bool {
-    word == name
-}
-
-/// Takes a configuration: the eight numbers that follow `config` in a script.
-pub fn config_of(step: &mut Step<'_>) -> Config {
-    Config {
-        lanes: step.small(),
-        sets: step.small(),
-        memory: step.small(),
-        segments: step.small(),
-        segment_pages: step.small(),
-        entries: step.small(),
-        threshold: step.small(),
-        admit: step.small(),
-    }
-}
 
 /// Takes a number of 16 bits, as that of a caller.
 pub fn caller_of(step: &mut Step<'_>) -> u16 {

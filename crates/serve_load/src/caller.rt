@@ -17,6 +17,7 @@ use crate::caller_tally::CallerTally;
 use crate::objects::{expires_of, key, key_bytes, moment_of};
 use crate::right::judged;
 use crate::room::Room;
+use crate::shared_load::SharedLoad;
 use crate::tally::{Tally, Tallying};
 use crate::time_limit::TimeLimit;
 use crate::told_hit::ToldHit;
@@ -81,24 +82,20 @@ impl<L: KeyLanes, J: BookName> Caller<L, J> {
     >(
         self,
         rt: &R,
-        alloc: Global,
         cache: &ServiceCache<D, P, PAGE, L, J>,
-        load: &ServeLoad,
-        ranks: &Option<Ranks>,
+        shared: &SharedLoad<'_>,
         start: Instant,
-        made: &AtomicU64,
-        halted: &AtomicU64,
     ) -> Tally<M>
-        requires begun { IsOneOf load.now self.number self.generator self.words.items self.seat }
-        requires ranks { ranks.now ≡ ranks_of load.now }
-        requires most { M.most ≡ load.now.operations }
-        requires seconds { M.seconds ≡ load.now.seconds }
-        requires tallies { (counted : CallerTally) → IsTally load.now counted → ∥ M.is_tally counted ∥₁ }
-        ensures ended { HasEnded load.now self.number result.counted }
-        ensures found { IsOfCache L.is_honest L.lane_of load.now self.number result.counted.stop }
+        requires begun { IsOneOf shared.now.load.now self.number self.generator self.words.items self.seat }
+        requires ranks { shared.now.ranks.now ≡ ranks_of shared.now.load.now }
+        requires most { M.most ≡ shared.now.load.now.operations }
+        requires seconds { M.seconds ≡ shared.now.load.now.seconds }
+        requires tallies { (counted : CallerTally) → IsTally shared.now.load.now counted → ∥ M.is_tally counted ∥₁ }
+        ensures ended { HasEnded shared.now.load.now self.number result.counted }
+        ensures found { IsOfCache L.is_honest L.lane_of shared.now.load.now self.number result.counted.stop }
     {
-        let Ok(mut times) = CallTimes::new(alloc) else {
-            halted.store(1, Ordering::SeqCst);
+        let Ok(mut times) = CallTimes::new(shared.alloc) else {
+            shared.halted.store(1, Ordering::SeqCst);
             return Tally {
                 counted: CallerTally {
                     operations: 0,
@@ -109,10 +106,8 @@ impl<L: KeyLanes, J: BookName> Caller<L, J> {
                 of: PhantomData,
             };
         };
-        let mut limit = TimeLimit::new(start, load.seconds);
-        let counted = self.make_each(
-            rt, alloc, cache, load, ranks, &mut limit, made, halted, &mut times,
-        );
+        let mut limit = TimeLimit::new(start, shared.load.seconds);
+        let counted = self.make_each(rt, cache, shared, &mut limit, &mut times);
         Tally {
             counted,
             times: Some(times),
@@ -125,36 +120,32 @@ impl<L: KeyLanes, J: BookName> Caller<L, J> {
     fn make_each<D: PageDevice<PAGE>, P: EvictionPolicy + Drop, const PAGE: usize, R: Wait + Clock>(
         mut self,
         rt: &R,
-        alloc: Global,
         cache: &ServiceCache<D, P, PAGE, L, J>,
-        load: &ServeLoad,
-        ranks: &Option<Ranks>,
+        shared: &SharedLoad<'_>,
         limit: &mut TimeLimit,
-        made: &AtomicU64,
-        halted: &AtomicU64,
         times: &mut CallTimes,
     ) -> CallerTally
-        requires keys { length self.words.items ≡ load.now.keys }
-        requires ranks { ranks.now ≡ ranks_of load.now }
-        requires limit { IsFresh load.now.seconds limit.old }
-        ensures ended { IsEnded load.now self.number self.generator
+        requires keys { length self.words.items ≡ shared.now.load.now.keys }
+        requires ranks { shared.now.ranks.now ≡ ranks_of shared.now.load.now }
+        requires limit { IsFresh shared.now.load.now.seconds limit.old }
+        ensures ended { IsEnded shared.now.load.now self.number self.generator
             (standing self.words.items self.seat) result }
-        ensures found { IsOfCache L.is_honest L.lane_of load.now self.number result.stop }
+        ensures found { IsOfCache L.is_honest L.lane_of shared.now.load.now self.number result.stop }
         ensures timed { IsTimed result.operations result.stop limit.new }
     {
         let mut found = ValueBuffer::empty();
         let mut refused = 0;
-        for number in 0..load.operations {
-            if let Some(stop) = stop_of(rt, halted, limit) {
+        for number in 0..shared.load.operations {
+            if let Some(stop) = stop_of(rt, shared.halted, limit) {
                 return CallerTally {
                     operations: number,
                     refused,
                     stop,
                 };
             }
-            let step = self.make_next(rt, alloc, cache, load, ranks, number, times, &mut found);
+            let step = self.make_next(rt, cache, shared, number, times, &mut found);
             if let Some(known) = step.wrong() {
-                halted.store(1, Ordering::SeqCst);
+                shared.halted.store(1, Ordering::SeqCst);
                 return CallerTally {
                     operations: number + 1,
                     refused,
@@ -167,10 +158,10 @@ impl<L: KeyLanes, J: BookName> Caller<L, J> {
                 };
             }
             refused += step.refusals();
-            count(made, number);
+            count(shared.made, number);
         }
         CallerTally {
-            operations: load.operations,
+            operations: shared.load.operations,
             refused,
             stop: CallerStop::AllMade,
         }
@@ -180,32 +171,30 @@ impl<L: KeyLanes, J: BookName> Caller<L, J> {
     fn make_next<D: PageDevice<PAGE>, P: EvictionPolicy + Drop, const PAGE: usize, R: Wait + Clock>(
         &mut self,
         rt: &R,
-        alloc: Global,
         cache: &ServiceCache<D, P, PAGE, L, J>,
-        load: &ServeLoad,
-        ranks: &Option<Ranks>,
+        shared: &SharedLoad<'_>,
         number: u32,
         times: &mut CallTimes,
         found: &mut ValueBuffer,
     ) -> CallEnd
-        requires keys { length self.old.words.items ≡ load.now.keys }
-        requires ranks { ranks.now ≡ ranks_of load.now }
+        requires keys { length self.old.words.items ≡ shared.now.load.now.keys }
+        requires ranks { shared.now.ranks.now ≡ ranks_of shared.now.load.now }
         requires number { number < 4294967295 }
-        ensures does { Does load.now self.old.number (served_next_of load.now self.old.generator) number
+        ensures does { Does shared.now.load.now self.old.number (served_next_of shared.now.load.now self.old.generator) number
             result (standing self.old.words.items self.old.seat)
             (standing self.new.words.items self.new.seat) }
-        ensures finds { FindsAll L.is_honest L.lane_of load.now self.old.number
-            (served_next_of load.now self.old.generator) self.old.words.items number self.new.seat
+        ensures finds { FindsAll L.is_honest L.lane_of shared.now.load.now self.old.number
+            (served_next_of shared.now.load.now self.old.generator) self.old.words.items number self.new.seat
             found.new result }
         ensures number { self.new.number ≡ self.old.number }
         ensures generator { self.new.generator ≡ past (past self.old.generator) }
-        ensures keys { length self.new.words.items ≡ load.now.keys }
-        ensures times { IsSampled number (served_next_of load.now self.old.generator)
+        ensures keys { length self.new.words.items ≡ shared.now.load.now.keys }
+        ensures times { IsSampled number (served_next_of shared.now.load.now self.old.generator)
             times.old.gets times.new.gets times.old.puts times.new.puts }
     {
-        let operation = ServeOperation::next(&mut self.generator, load, ranks);
+        let operation = ServeOperation::next(&mut self.generator, shared.load, shared.ranks);
         let start = start_of(rt, operation, number);
-        let step = self.make(rt, alloc, cache, load, operation, number, found);
+        let step = self.make(rt, cache, shared, operation, number, found);
         times.note(rt, operation, &start);
         step
     }
@@ -214,19 +203,18 @@ impl<L: KeyLanes, J: BookName> Caller<L, J> {
     fn make<D: PageDevice<PAGE>, P: EvictionPolicy + Drop, const PAGE: usize, R: Wait>(
         &mut self,
         rt: &R,
-        alloc: Global,
         cache: &ServiceCache<D, P, PAGE, L, J>,
-        load: &ServeLoad,
+        shared: &SharedLoad<'_>,
         operation: ServeOperation,
         number: u32,
         found: &mut ValueBuffer,
     ) -> CallEnd
         requires key { key_number_of operation < length self.old.words.items }
         requires number { number < 4294967295 }
-        ensures does { Does load.now self.old.number operation number result
+        ensures does { Does shared.now.load.now self.old.number operation number result
             (standing self.old.words.items self.old.seat)
             (standing self.new.words.items self.new.seat) }
-        ensures finds { FindsAll L.is_honest L.lane_of load.now self.old.number operation self.old.words.items number
+        ensures finds { FindsAll L.is_honest L.lane_of shared.now.load.now self.old.number operation self.old.words.items number
             self.new.seat found.new result }
         ensures number { self.new.number ≡ self.old.number }
         ensures generator { self.new.generator ≡ self.old.generator }
@@ -235,14 +223,14 @@ impl<L: KeyLanes, J: BookName> Caller<L, J> {
         match operation {
             ServeOperation::Get(key) => {
                 found.set(&[]);
-                if load.leases == 0 {
-                    self.get(rt, cache, load, key, number, found)
+                if shared.load.leases == 0 {
+                    self.get(rt, cache, shared.load, key, number, found)
                 } else {
-                    self.get_or_fill(rt, alloc, cache, load, key, number, found)
+                    self.get_or_fill(rt, cache, shared, key, number, found)
                 }
             }
             ServeOperation::Remove(key) => self.remove(rt, cache, key),
-            ServeOperation::Put(key) => self.put(rt, alloc, cache, load, key, number),
+            ServeOperation::Put(key) => self.put(rt, cache, shared, key, number),
         }
     }
 
@@ -282,9 +270,8 @@ impl<L: KeyLanes, J: BookName> Caller<L, J> {
     fn get_or_fill<D: PageDevice<PAGE>, P: EvictionPolicy + Drop, const PAGE: usize, R: Wait>(
         &mut self,
         rt: &R,
-        alloc: Global,
         cache: &ServiceCache<D, P, PAGE, L, J>,
-        load: &ServeLoad,
+        shared: &SharedLoad<'_>,
         key: u32,
         number: u32,
         found: &mut ValueBuffer,
@@ -292,24 +279,24 @@ impl<L: KeyLanes, J: BookName> Caller<L, J> {
         requires key { key < length self.old.words.items }
         requires number { number < 4294967295 }
         requires empty { found.old ≡ [] }
-        requires leases { load.now.leases ≢ 0 }
-        ensures finds { Finds L.is_honest L.lane_of load.now self.old.number key
+        requires leases { shared.now.load.now.leases ≢ 0 }
+        ensures finds { Finds L.is_honest L.lane_of shared.now.load.now self.old.number key
             (slice_index self.old.words.items key) number self.new.seat found.new result }
-        ensures looks { Looks load.now self.old.number key number result
+        ensures looks { Looks shared.now.load.now self.old.number key number result
             (standing self.old.words.items self.old.seat)
             (standing self.new.words.items self.new.seat) }
         ensures number { self.new.number ≡ self.old.number }
         ensures generator { self.new.generator ≡ self.old.generator }
         ensures keys { length self.new.words.items ≡ length self.old.words.items }
     {
-        let moment = moment_of(load, number);
+        let moment = moment_of(shared.load, number);
         let name = key_bytes(self.number, key);
         let known = self.words[key as usize];
         match cache.get_or_lease(rt, &mut self.seat, &name, moment, found) {
-            Ok(LookedUp::Miss(_, lease)) => self.fill(rt, alloc, cache, load, lease, key, number),
+            Ok(LookedUp::Miss(_, lease)) => self.fill(rt, cache, shared, lease, key, number),
             Ok(LookedUp::Hit { tier, expires }) => {
                 judged(
-                    load,
+                    shared.load,
                     key,
                     known,
                     moment,
@@ -317,7 +304,7 @@ impl<L: KeyLanes, J: BookName> Caller<L, J> {
                     found.bytes(),
                 )
             }
-            Err(fault) => judged(load, key, known, moment, Err(fault), found.bytes()),
+            Err(fault) => judged(shared.load, key, known, moment, Err(fault), found.bytes()),
         }
     }
 
@@ -325,25 +312,24 @@ impl<L: KeyLanes, J: BookName> Caller<L, J> {
     fn fill<D: PageDevice<PAGE>, P: EvictionPolicy + Drop, const PAGE: usize, R: Wait>(
         &mut self,
         rt: &R,
-        alloc: Global,
         cache: &ServiceCache<D, P, PAGE, L, J>,
-        load: &ServeLoad,
+        shared: &SharedLoad<'_>,
         lease: Lease,
         key: u32,
         number: u32,
     ) -> CallEnd
         requires key { key < length self.old.words.items }
         requires number { number < 4294967295 }
-        requires leases { load.now.leases ≢ 0 }
+        requires leases { shared.now.load.now.leases ≢ 0 }
         ensures right { is_wrong result ≡ false }
-        ensures looks { Looks load.now self.old.number key number result
+        ensures looks { Looks shared.now.load.now self.old.number key number result
             (standing self.old.words.items self.old.seat)
             (standing self.new.words.items self.new.seat) }
         ensures number { self.new.number ≡ self.old.number }
         ensures generator { self.new.generator ≡ self.old.generator }
         ensures keys { length self.new.words.items ≡ length self.old.words.items }
     {
-        let Ok((name, value)) = self.object(alloc, load, key, number) else {
+        let Ok((name, value)) = self.object(shared.alloc, shared.load, key, number) else {
             return CallEnd::Refused;
         };
         let filled = cache.fill(
@@ -352,7 +338,7 @@ impl<L: KeyLanes, J: BookName> Caller<L, J> {
             lease,
             name,
             value,
-            expires_of(load, number),
+            expires_of(shared.load, number),
         );
         let known = &mut self.words[key as usize];
         *known = word_after_fill(filled, *known, number);
@@ -363,26 +349,31 @@ impl<L: KeyLanes, J: BookName> Caller<L, J> {
     fn put<D: PageDevice<PAGE>, P: EvictionPolicy + Drop, const PAGE: usize, R: Wait>(
         &mut self,
         rt: &R,
-        alloc: Global,
         cache: &ServiceCache<D, P, PAGE, L, J>,
-        load: &ServeLoad,
+        shared: &SharedLoad<'_>,
         key: u32,
         number: u32,
     ) -> CallEnd
         requires key { key < length self.old.words.items }
         requires number { number < 4294967295 }
-        ensures puts { Puts load.now self.old.number key number result
+        ensures puts { Puts shared.now.load.now self.old.number key number result
             (standing self.old.words.items self.old.seat)
             (standing self.new.words.items self.new.seat) }
         ensures number { self.new.number ≡ self.old.number }
         ensures generator { self.new.generator ≡ self.old.generator }
         ensures keys { length self.new.words.items ≡ length self.old.words.items }
     {
-        let Ok((name, value)) = self.object(alloc, load, key, number) else {
+        let Ok((name, value)) = self.object(shared.alloc, shared.load, key, number) else {
             let _removed = self.remove(rt, cache, key);
             return CallEnd::Refused;
         };
-        match cache.put(rt, &mut self.seat, name, value, expires_of(load, number)) {
+        match cache.put(
+            rt,
+            &mut self.seat,
+            name,
+            value,
+            expires_of(shared.load, number),
+        ) {
             Ok(_) => {
                 self.words[key as usize] = number + 1;
                 CallEnd::Done

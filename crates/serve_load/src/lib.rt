@@ -21,6 +21,7 @@ mod serve_crew;
 mod serve_end;
 mod serve_outcome;
 mod serving;
+mod shared_load;
 mod sized;
 mod sums;
 mod tally;

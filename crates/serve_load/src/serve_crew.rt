@@ -7,6 +7,7 @@ ghost use Rattle.serve_load.specs.Fitting.{CacheFits};
 ghost use Rattle.serve_load.specs.declared.caller_tally.CallerTally.{CallerTally};
 
 use crate::caller::Caller;
+use crate::shared_load::SharedLoad;
 use crate::tally::{Tally, Tallying};
 use deed_book::{BookName, KeyLanes};
 use load::{Crew, Ranks, ServeLoad};
@@ -76,16 +77,14 @@ impl<
     }
 
     fn call(&self, rt: &R, caller: Caller<L, J>, made: &AtomicU64) -> Tally<M> {
-        caller.make_all::<D, P, PAGE, M, R>(
-            rt,
-            self.alloc,
-            self.cache,
-            self.load,
-            self.ranks,
-            self.start,
+        let shared = SharedLoad {
+            alloc: self.alloc,
+            load: self.load,
+            ranks: self.ranks,
             made,
-            &self.halted,
-        )
+            halted: &self.halted,
+        };
+        caller.make_all::<D, P, PAGE, M, R>(rt, self.cache, &shared, self.start)
     }
 
     fn tend(&self, rt: &R, lane: u32) -> bool {

@@ -1,6 +1,5 @@
 -- What a call with a seat tells of its result, for a result that is known.
-use Rattle.std.proofs.Common.{◌≡◌, ◌≢◌, ◌<◌, ◌↔◌, ℕ, List, [], length, Option, Result, Ok, Err, refl, ap, sym, ◌∙◌, arith}
-use Rattle.std.specs.Prelude.{IfOk, IfErr, IsErr, IsErrAnd, OnOk}
+use Rattle.std.proofs.Common.{◌≡◌, ◌≢◌, ◌<◌, ◌↔◌, ℕ, List, [], length, Result, Ok, Err, refl, ap, sym, ◌∙◌, arith}
 use Rattle.record_pages.specs.Bounded.{IsKey}
 use Rattle.record_pages.specs.declared.key.KeyFault.{KeyFault}
 use Rattle.record_pages.specs.declared.key.KeyFault.TheVariants as keys
@@ -8,31 +7,13 @@ use Rattle.record_pages.specs.declared.put_fault.PutFault.{PutFault}
 use Rattle.record_pages.specs.declared.put_fault.PutFault.TheVariants as puts
 use Rattle.service_lane.specs.declared.filled.Filled.{Filled}
 use Rattle.service_lane.specs.declared.filled.Filled.TheVariants.{Stale}
-use Rattle.certificate_checker.specs.Deeds.{Deed}
 use Rattle.deed_book.specs.declared.register.EntryFault.{EntryFault}
 use Rattle.deed_book.specs.declared.register.EntryFault.TheVariants as entries
 use Rattle.service_cache.specs.Refusals.{RefusesRemoval, RefusesGet}
-use Rattle.service_cache.specs.Seated.{Seated, StayAsTheyWere, RemovalLeaves}
 use Rattle.service_cache.specs.declared.seat_fault.SeatFault.{SeatFault}
 use Rattle.service_cache.specs.declared.seat_fault.SeatFault.TheVariants as refusals
 use Rattle.service_cache.specs.declared.seat_fault.SeatPutFault.{SeatPutFault}
 use Rattle.service_cache.specs.declared.seat_fault.SeatPutFault.TheVariants as put_refusals
-
--- a result is the error of which it is told
-pub is_fault : {X E : Type 0} (r : Result X E) (fault : E) → IsErr r × IsErrAnd r (λ e. e ≡ fault) → r ≡ Err fault
-is_fault (Ok x) fault told = absurd told.1
-is_fault (Err e) fault told = ap Err told.1
-
--- what is refused has answered nothing
-pub none_answered : {X E : Type 0} (r : Result X E) (fault : E) (says : Type 0) → r ≡ Err fault → OnOk r says
-none_answered r fault says is = rw is tt
-
-pub none_answered_if : {X E : Type 0} (r : Result X E) (fault : E) (says : X → Type 0) → r ≡ Err fault → IfOk r says
-none_answered_if r fault says is = rw is tt
-
--- it tells what is said of its fault
-pub refused_by : {X E : Type 0} (r : Result X E) (fault : E) (says : E → Type 0) → r ≡ Err fault → says fault → IfErr r says
-refused_by r fault says is told = rw is told
 
 -- a put that the store refused was not refused by the book, nor the other way round
 pub not_by_book : {X : Type 0} (r : Result X SeatPutFault) (fault : PutFault) (other : EntryFault) (says : Type 0) → r ≡ Err (put_refusals.Put fault) → r ≡ Err (put_refusals.Book other) → says
@@ -51,25 +32,19 @@ module _ {Y : Type 0} (key : List ℕ) (fault : KeyFault) (empty : (◌≡◌ {A
   pub no_key : ¬ IsKey key
   no_key = no_key_by fault refl
 
-  removal_by : (f : KeyFault) → f ≡ fault → RefusesRemoval key (refusals.Key f)
+  -- a removal of them is refused for what they are
+  pub removal_by : (f : KeyFault) → f ≡ fault → RefusesRemoval key (refusals.Key f)
   removal_by keys.KeyEmpty is = empty.0 (ap Err (sym is))
   removal_by keys.KeyTooLong is = long.0 (ap Err (sym is))
   removal_by keys.OutOfMemory is = absurd (memory (ap Err (sym is)))
 
-  get_by : (f : KeyFault) → f ≡ fault → RefusesGet key (refusals.Key f)
+  -- so is a get
+  pub get_by : (f : KeyFault) → f ≡ fault → RefusesGet key (refusals.Key f)
   get_by keys.KeyEmpty is = empty.0 (ap Err (sym is))
   get_by keys.KeyTooLong is = long.0 (ap Err (sym is))
   get_by keys.OutOfMemory is = absurd (memory (ap Err (sym is)))
 
   module _ {X : Type 0} (r : Result X SeatFault) (is : r ≡ Err (refusals.Key fault)) where
-    -- a removal of them is refused for what they are
-    pub removal_refused : IfErr r (RefusesRemoval key)
-    removal_refused = rw is (removal_by fault refl)
-
-    -- so is a get
-    pub get_refused : IfErr r (RefusesGet key)
-    get_refused = rw is (get_by fault refl)
-
     -- and the book is not asked
     pub book_unasked : (none : Type 0) → (r ≡ Err (refusals.Book entries.Full)) ↔ (IsKey key × none)
     book_unasked none = (λ e. absurd (let no = sym is ∙ e in cc), λ both. absurd (no_key both.0))
@@ -81,10 +56,6 @@ removal_entered x y full key none told = (λ e. absurd (cc), λ both. absurd (le
 -- a put that the store refused was entered
 pub object_exactly : {X Y : Type 0} (r : Result X SeatPutFault) (fault : PutFault) (y : Y) (none : Type 0) → r ≡ Err (put_refusals.Put fault) → (◌≡◌ {A = Result Y EntryFault} (Ok y) (Err entries.Full)) ↔ none → (r ≡ Err (put_refusals.Book entries.Full)) ↔ none
 object_exactly r fault y none is full = (λ e. not_by_book r fault entries.Full none is e, λ no. absurd (let it = full.1 no in cc))
-
--- what a removal leaves of bytes that are no key's
-pub removal_stayed : {X D : Type 0} (held : D → ℕ → Option (List ℕ)) (key : List ℕ) (r : Result X SeatFault) (fault : KeyFault) (old : Seated D) (seat_old : List Deed) (new : Seated D) (seat_new : List Deed) → r ≡ Err (refusals.Key fault) → StayAsTheyWere old seat_old new seat_new → IfErr r (λ f. RemovalLeaves held key f old seat_old new seat_new)
-removal_stayed held key r fault old seat_old new seat_new is stays = rw is stays
 
 -- a fill that the store refused was not stale
 pub refused_not_stale : {E F : Type 0} (r : Result Filled F) (fault : F) (f : E) (ended : Type 0) → r ≡ Err fault → (◌≡◌ {A = Result Filled E} (Err f) (Ok Stale)) ↔ ended → (r ≡ Ok Stale) ↔ ended

@@ -4,6 +4,13 @@ use Rattle.std.specs.Prelude.{IsTrue}
 use Rattle.policy_laws.specs.declared.choice.Choice.{Choice}
 use Rattle.policy_laws.specs.declared.job.Job.{Job}
 use Rattle.record_pages.specs.declared.answer.Answer.{Answer}
+use Rattle.record_pages.specs.declared.answer.Answer.TheVariants as answers
+use Rattle.record_pages.specs.declared.tier.Tier.TheVariants.{Memory, Log, Set}
+use Rattle.certificate_checker.specs.Deeds.{Deed}
+use Rattle.mover.specs.declared.answer_kind.AnswerKind.{AnswerKind}
+use Rattle.mover.specs.declared.answer_kind.AnswerKind.TheVariants as kinds
+use Rattle.service_lane.specs.Asked.{IsLiveHit, TellsExpiry}
+use Rattle.service_cache.specs.Calls.{HasExpiry, IsHit}
 use Rattle.record_pages.specs.declared.pushed.Pushed.{Pushed}
 use Rattle.record_pages.specs.Expiry.{timed}
 use Rattle.service_lane.specs.declared.helped.Helped.{Helped}
@@ -16,6 +23,8 @@ use Rattle.service_lane.specs.declared.copied.Copied.{Copied}
 use Rattle.service_lane.specs.declared.copied.Copied.TheVariants.{Nothing, Answered, Made}
 use Rattle.service_lane.specs.Upkeep.{Upkeeps, HelpsOnce, HelpsSteps, Helps}
 use Rattle.service_lane.proofs.public_laws.Returning.{back_device}
+use Rattle.deed_book.specs.Registers.{Registered}
+use Rattle.service_cache.specs.Seated.{IsAsSaid}
 
 module _ {D : Type 0} (size : ℕ) (honest : D → Bool) (failures : D → ℕ) (held : D → ℕ → Option (List ℕ)) where
   -- the device of a lane is as honest as that of another
@@ -69,3 +78,26 @@ module _ {D : Type 0} (size : ℕ) (honest : D → Bool) (failures : D → ℕ) 
 pub said_stays : (said : ℕ → Bool) (number now : ℕ) (was is : Bool) → now ≡ number → is ≡ was → (IsTrue (said number) → IsTrue was) → IsTrue (said now) → IsTrue is
 said_stays said number now was is same_number same_honesty holds told =
     subst (λ (b : Bool). IsTrue b) (sym same_honesty) (holds (subst (λ (n : ℕ). IsTrue (said n)) same_number told))
+
+-- the same of a lane with its register
+pub said_kept : {D : Type 0} (said : ℕ → Bool) (honest : D → Bool) (old_register : Registered) (old : Serving D) (new_register : Registered) (new : Serving D) → new_register.number ≡ old_register.number → honest new.store.device ≡ honest old.store.device → IsAsSaid said honest old_register old → IsAsSaid said honest new_register new
+said_kept said honest old_register old new_register new same_number same_honesty holds =
+    said_stays said old_register.number new_register.number (honest old.store.device) (honest new.store.device) same_number same_honesty holds
+
+module _ (said : ℕ → Bool) (lane_of : List ℕ → ℕ) (key : List ℕ) (number : ℕ) (honest : Bool) (ours : lane_of key ≡ number) (holds : IsTrue (said number) → IsTrue honest) where
+  of_lane : IsTrue (said (lane_of key)) → IsTrue honest
+  of_lane told = holds (subst (λ (n : ℕ). IsTrue (said n)) ours told)
+
+  -- what is hit if the device is honest is hit if that is said of the key's lane
+  pub hit_as_said : (list : List Deed) (moment : ℕ) (answer : Answer) → IsLiveHit (IsTrue honest) list key moment answer → IsHit said lane_of list key moment answer
+  hit_as_said list moment (answers.Hit value Memory) live = live
+  hit_as_said list moment (answers.Hit value Log) live = λ told. live (of_lane told)
+  hit_as_said list moment (answers.Hit value Set) live = λ told. live (of_lane told)
+  hit_as_said list moment (answers.Miss cause) live = tt
+
+  -- and so is the expiry that is told with it
+  pub expiry_as_said : (list : List Deed) (value : List ℕ) (seen : AnswerKind) → TellsExpiry (IsTrue honest) list key value seen → HasExpiry said lane_of list key value seen
+  expiry_as_said list value (kinds.Hit Memory expires) has = has
+  expiry_as_said list value (kinds.Hit Log expires) has = λ told. has (of_lane told)
+  expiry_as_said list value (kinds.Hit Set expires) has = λ told. has (of_lane told)
+  expiry_as_said list value (kinds.Miss cause) has = tt

@@ -1,5 +1,5 @@
 -- What is known of a key that was answered, and of a put that was answered or refused.
-use Rattle.std.proofs.Common.{◌≡◌, ◌<◌, ◌↔◌, ℕ, List, [], ◌∷◌, length, Option, Result, Ok, Err, refl, ap, sym, ◌∙◌, inl, inr, arith}
+use Rattle.std.proofs.Common.{◌≡◌, ◌<◌, ◌≤◌, ◌↔◌, ℕ, List, [], ◌∷◌, length, Option, Result, Ok, Err, refl, ap, sym, ◌∙◌, inl, inr, arith}
 use Rattle.std.proofs.lemmas.Bool.{cases_lt}
 use Rattle.record_pages.specs.Bounded.{IsKey}
 use Rattle.record_pages.specs.Sizes.{object_size, room}
@@ -11,13 +11,10 @@ use Rattle.service_lane.specs.declared.filled.Filled.TheVariants.{Stored, Stale}
 use Rattle.record_pages.specs.declared.pushed.Pushed.{Pushed}
 use Rattle.deed_book.specs.declared.register.EntryFault.{EntryFault}
 use Rattle.deed_book.specs.declared.register.EntryFault.TheVariants as entries
-use Rattle.std.specs.Prelude.{IfErr}
 use Rattle.service_cache.specs.declared.seat_fault.SeatFault.{SeatFault}
 use Rattle.service_cache.specs.declared.seat_fault.SeatFault.TheVariants as refusals
 use Rattle.service_cache.specs.declared.seat_fault.SeatPutFault.{SeatPutFault}
-use Rattle.service_cache.specs.Refusals.{RefusesPut, RefusesRemoval}
-use Rattle.certificate_checker.specs.Deeds.{Deed}
-use Rattle.service_cache.specs.Seated.{Seated, IsForgotten, RemovalLeaves}
+use Rattle.service_cache.specs.Refusals.{RefusesPut}
 use Rattle.service_cache.specs.declared.seat_fault.SeatPutFault.TheVariants as put_refusals
 
 -- what is answered is a key's
@@ -36,13 +33,12 @@ refused_put size key value r puts.OutOfMemory is large = elim (cases_lt (room si
   | inr few ↦ few
 ]
 
--- what is refused by the book is a key's
-pub refused_key : {X : Type 0} (r : Result X SeatFault) (key : List ℕ) (fault : EntryFault) → r ≡ Err (refusals.Book fault) → IsKey key → IfErr r (RefusesRemoval key)
-refused_key r key fault is has = rw is has
-
--- what is refused for an object
-pub refused_object : {X : Type 0} (size : ℕ) (key value : List ℕ) (r : Result X SeatPutFault) (fault : PutFault) → r ≡ Err (put_refusals.Put fault) → RefusesPut size key value (put_refusals.Put fault) → IfErr r (RefusesPut size key value)
-refused_object size key value r fault is why = rw is why
+-- an object that was stored fits
+pub stored_fits : (size : ℕ) (key value : List ℕ) (pushed : Pushed) → ((◌≡◌ {A = Result Pushed PutFault} (Ok pushed) (Err puts.TooLarge)) ↔ (room size < object_size key value)) → object_size key value ≤ room size
+stored_fits size key value pushed large = elim (cases_lt (room size) (object_size key value)) [
+  | inl more ↦ absurd (let no = large.1 more in cc)
+  | inr few ↦ few
+]
 
 -- a fill that was stored was not stale, whatever is answered then
 pub not_stale : {E F : Type 0} (was : Result Filled E) (then : Result Filled F) (pushed : Pushed) (ended : Type 0) → was ≡ Ok (Stored pushed) → ((was ≡ Ok Stale) ↔ ended) → ¬ (then ≡ Ok Stale) → (then ≡ Ok Stale) ↔ ended
@@ -69,7 +65,3 @@ put_full_exactly {X} {Y} r fault none is full = (λ e. full.0 (ap Err (put_book_
 -- what was entered had room
 pub entered_exactly : {X Y : Type 0} (x : X) (y : Y) (none : Type 0) → (◌≡◌ {A = Result Y EntryFault} (Ok y) (Err entries.Full)) ↔ none → (◌≡◌ {A = Result X SeatPutFault} (Ok x) (Err (put_refusals.Book entries.Full))) ↔ none
 entered_exactly x y none full = (λ e. absurd (cc), λ no. absurd (let is = full.1 no in cc))
-
--- what a removal leaves that the book refused
-pub removal_left : {X D : Type 0} (held : D → ℕ → Option (List ℕ)) (key : List ℕ) (r : Result X SeatFault) (fault : EntryFault) (old : Seated D) (seat_old : List Deed) (new : Seated D) (seat_new : List Deed) → r ≡ Err (refusals.Book fault) → IsForgotten held key old seat_old new seat_new → IfErr r (λ f. RemovalLeaves held key f old seat_old new seat_new)
-removal_left held key r fault old seat_old new seat_new is forgotten = rw is forgotten

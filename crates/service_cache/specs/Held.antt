@@ -1,12 +1,11 @@
 -- What the lock of a lane keeps, when it is new, and what calls do to it.
-use Rattle.std.specs.Prelude.{◌≡◌, ℕ, List, Option, Bool, IsTrue}
+use Rattle.std.specs.Prelude.{◌≡◌, ℕ, List, Option, Bool}
 use Rattle.policy_laws.specs.declared.choice.Choice.{Choice}
 use Rattle.policy_laws.specs.declared.job.Job.{Job}
 use Rattle.record_pages.specs.declared.layout.Layout.{Layout}
 use Rattle.record_pages.specs.Expiry.{timed}
 use Rattle.key_hash.specs.declared.random_seed.RandomSeed.{RandomSeed}
 use Rattle.key_hash.specs.Hashing.{derived}
-use Rattle.rand_pcg.specs.Lcg.{Lcg}
 use Rattle.page_device.specs.Counting.{CountedDevice, no_device_counts}
 use Rattle.service_lane.specs.Counting.{counts_stale, counts_lease}
 use Rattle.service_lane.specs.Leases.{writes_for}
@@ -14,31 +13,9 @@ use Rattle.service_lane.specs.Serving.{Serving, Gets, OpensServing}
 use Rattle.service_lane.specs.WithHelp.{FillsAndHelps}
 use Rattle.service_lane.specs.declared.filled.Filled.{Filled}
 use Rattle.service_lane.specs.declared.filled.Filled.TheVariants.{Stored, Stale}
-use Rattle.service_cache.specs.Seated.{Seated}
 use Rattle.service_cache.specs.Calls.{looked_up}
 use Rattle.service_cache.specs.declared.looked_up.LookedUp.{LookedUp}
 use Rattle.service_cache.specs.declared.looked_up.LookedUp.TheVariants.{Hit, Miss}
-
--- whether a device that counts gives back what was written: the device in it does
-abbrev pub honest_in : {D : Type 0} → (D → Bool) → CountedDevice D → Bool
-honest_in honest counted = honest counted.device
-
--- how many of its calls failed
-abbrev pub failures_in : {D : Type 0} → (D → ℕ) → CountedDevice D → ℕ
-failures_in failures counted = failures counted.device
-
--- what its pages are known to hold
-abbrev pub held_in : {D : Type 0} → (D → ℕ → Option (List ℕ)) → CountedDevice D → ℕ → Option (List ℕ)
-held_in held counted = held counted.device
-
--- what the lock of a lane keeps: the lane with its register, and the generator of its words of admission
-pub record Held (D : Type 0) : Type 0 where
-  pub lane : Seated (CountedDevice D)
-  pub words : Lcg
-
--- the device of a lane is honest if that is said of the lane's number
-abbrev pub IsAsSaid : {D : Type 0} → (ℕ → Bool) → (D → Bool) → Held D → Type 0
-IsAsSaid said honest held = IsTrue (said held.lane.register.number) → IsTrue (honest held.lane.serving.store.device.device)
 
 -- a new lane of this number: empty, of this layout, over this device, with this many slots for leases that have seen no write, and
 -- sorted by the cache's seed for the number; one in so many hits on flash has its object brought back

@@ -1,5 +1,5 @@
 -- A lane with its register in a book, and what its calls leave.
-use Rattle.std.specs.Prelude.{◌≡◌, ◌≤◌, ◌⊎◌, ℕ, ◌^◌, List, length, Option, None}
+use Rattle.std.specs.Prelude.{◌≡◌, ◌≤◌, ◌⊎◌, ℕ, ◌^◌, List, length, Option, None, Bool, IsTrue}
 use Rattle.record_pages.specs.Expiry.{timed}
 use Rattle.record_pages.specs.declared.pushed.Pushed.{Pushed}
 use Rattle.trace_file.specs.declared.act.Act.TheVariants.{Put}
@@ -7,6 +7,8 @@ use Rattle.certificate_checker.specs.Deeds.{Deed}
 use Rattle.certificate_checker.specs.Current.{current}
 use Rattle.service_lane.specs.Counting.{counts_refused_put, counts_refused_fill}
 use Rattle.service_lane.specs.Serving.{Serving, FillsStore, Removes}
+use Rattle.service_lane.specs.Words.{next_words}
+use Rattle.rand_pcg.specs.Lcg.{Lcg}
 use Rattle.service_lane.specs.declared.filled.Filled.{Filled}
 use Rattle.service_lane.specs.declared.filled.Filled.TheVariants.{Stored, Stale}
 use Rattle.deed_book.specs.Parts.{part_of}
@@ -16,15 +18,24 @@ use Rattle.service_cache.specs.declared.seat_fault.SeatFault.TheVariants as refu
 use Rattle.service_cache.specs.declared.seat_fault.SeatPutFault.{SeatPutFault}
 use Rattle.service_cache.specs.declared.seat_fault.SeatPutFault.TheVariants as put_refusals
 
--- a lane that serves, and its register
+-- a lane that serves, its register, and the generator of its words of admission
 pub record Seated (D : Type 0) : Type 0 where
   pub serving : Serving D
   pub register : Registered
+  pub words : Lcg
+
+-- the lane after its generator gave a word
+abbrev pub drawn : {D : Type 0} → Seated D → Seated D
+drawn s = record s { words = next_words s.words }
 
 -- each key of the lane has no value after its deeds, or has what it has after the writes of the list
 abbrev pub IsSeated : (List ℕ → ℕ) → Registered → List Deed → Type 0
 IsSeated lane_of register deeds =
     (key : List ℕ) → lane_of key ≡ register.number → (current deeds key ≡ None) ⊎ (current deeds key ≡ current register.deeds key)
+
+-- the device of a lane is honest if that is said of the lane's number
+abbrev pub IsAsSaid : {D : Type 0} → (ℕ → Bool) → (D → Bool) → Registered → Serving D → Type 0
+IsAsSaid said honest register serving = IsTrue (said register.number) → IsTrue (honest serving.store.device)
 
 -- the put of a value with its expiry
 abbrev pub put_of : List ℕ → List ℕ → ℕ → Deed

@@ -1,51 +1,64 @@
 // A lane that serves callers with seats.
-ghost use Rattle.std.specs.Prelude.{◌≡◌, ◌<◌, [], length};
+ghost use Rattle.std.specs.Prelude.{◌≡◌, ◌<◌, [], IsTrue, length};
 ghost use Rattle.klog.specs.Usage.{usage_of};
+ghost use Rattle.service_lane.specs.Words.{next_word};
 
 use deed_book::{BookName, KeyLanes, Register, Seat};
 use klog::LogUsage;
 use page_device::PageDevice;
+use rand_core::utils::NextWord;
+use rand_pcg::Lcg64Xsh32;
 use record_pages::Layout;
 use service_lane::{Counts, ServiceLane};
 use std::marker::Model;
 
 mod get;
+mod helping;
 mod put;
 mod tend;
 
-/// A lane that serves, with its register in a book: a list of all writes, which is there in proofs alone.
+/// A lane that serves, with the generator of its words of admission, and its register in a book: a list of all writes, which is there in
+/// proofs alone.
 ///
-/// Each key of the lane has, by the lane's deeds, no value, or what it has by the list.
+/// Each key of the lane has, by the lane's deeds, no value, or what it has by the list. The device is honest if the type of the lanes
+/// says so of the lane's number.
 #[derive(Drop)]
 pub struct SeatedLane<D: PageDevice<PAGE>, const PAGE: usize, L: KeyLanes, J: BookName> {
     lane: ServiceLane<D, PAGE>,
     register: Register<L, J>,
+    words: Lcg64Xsh32,
 }
 
 impl<D: PageDevice<PAGE>, const PAGE: usize, L: KeyLanes, J: BookName> Model
     for SeatedLane<D, PAGE, L, J> {
     ghost use Rattle.std.specs.Coded.{codes};
     ghost use Rattle.kset.specs.Sets.{sets_code};
-    ghost use Rattle.service_cache.specs.Seated.{Seated, IsSeated};
+    ghost use Rattle.service_cache.specs.Seated.{Seated, IsAsSaid, IsSeated};
 
     ghost Value = { Seated D };
 
     ghost coded = { Prim.hlevel (codes, sets_code) };
 
-    ghost view = { λ s. record { serving = s.lane; register = s.register } };
+    ghost view = { λ s. record { serving = s.lane; register = s.register; words = s.words } };
 
-    ghost invariant = { λ s. IsSeated L.lane_of s.register s.lane.deeds };
+    ghost invariant = { λ s. IsSeated L.lane_of s.register s.lane.deeds
+        × IsAsSaid L.is_honest D.honest s.register s.lane };
 }
 
 impl<D: PageDevice<PAGE>, const PAGE: usize, L: KeyLanes, J: BookName> SeatedLane<D, PAGE, L, J> {
-    ghost use Rattle.service_cache.specs.Seated.{IsSeated};
+    ghost use Rattle.service_cache.specs.Seated.{IsAsSaid, IsSeated, drawn};
 
-    /// A lane that was just opened, with a register that has seen nothing.
-    pub fn new(lane: ServiceLane<D, PAGE>, register: Register<L, J>) -> Self
+    /// A lane that was just opened, with a register that has seen nothing, and the generator of its words of admission: `words_of` gives one.
+    pub fn new(lane: ServiceLane<D, PAGE>, register: Register<L, J>, words: Lcg64Xsh32) -> Self
         requires opened { lane.deeds ≡ [] }
-        ensures { result ≡ record { serving = lane; register = register } }
+        requires honest { IsAsSaid L.is_honest D.honest register lane }
+        ensures { result ≡ record { serving = lane; register = register; words = words } }
     {
-        SeatedLane { lane, register }
+        SeatedLane {
+            lane,
+            register,
+            words,
+        }
     }
 
     /// The number of the lane in the book.
@@ -54,6 +67,7 @@ impl<D: PageDevice<PAGE>, const PAGE: usize, L: KeyLanes, J: BookName> SeatedLan
         ensures within { result < L.lanes }
         // What is true of every such lane.
         ensures seated { IsSeated L.lane_of self.now.register self.now.serving.deeds }
+        ensures said { IsAsSaid L.is_honest D.honest self.now.register self.now.serving }
     {
         self.register.number()
     }
@@ -98,5 +112,13 @@ impl<D: PageDevice<PAGE>, const PAGE: usize, L: KeyLanes, J: BookName> SeatedLan
         ensures { result ≡ self.now.serving.store.layout }
     {
         self.lane.layout()
+    }
+
+    // The next word of admission.
+    fn draw(&mut self) -> u32
+        ensures word { result ≡ next_word self.old.words }
+        ensures leaves { self.new ≡ drawn self.old }
+    {
+        self.words.next_word()
     }
 }

@@ -4,7 +4,6 @@
 #![tactic(auto)]
 
 mod cache;
-mod guarded;
 mod lane;
 mod looked_up;
 mod open_service_fault;

@@ -6,7 +6,6 @@ ghost use Rattle.service_lane.specs.Words.{words_for};
 ghost use Rattle.service_cache.specs.Held.{IsNewLane};
 ghost use Rattle.service_cache.specs.Sorted.{AreAsSaid};
 
-use crate::guarded::Guarded;
 use crate::lane::SeatedLane;
 use crate::service_options::ServiceOptions;
 use crossbeam_utils::CachePadded;
@@ -20,7 +19,9 @@ use std::collections::VecDeque;
 use std::sync::Mutex;
 
 /// A lane with its register under its lock, on cache lines of its own.
-pub(crate) type Locked<D, const PAGE: usize, L, J> = Mutex<CachePadded<Guarded<D, PAGE, L, J>>>;
+pub(crate) type Locked<D, const PAGE: usize, L, J> = Mutex<
+    CachePadded<SeatedLane<CountedPages<Boxed<D>>, PAGE, L, J>>,
+>;
 
 /// An empty lane over each device, with the next register of the book, under its lock: the lanes have the numbers from 0 in the
 /// order of the devices.
@@ -71,32 +72,32 @@ fn add_lane<D: PageDevice<PAGE>, const PAGE: usize, L: KeyLanes, J: BookName>(
     requires honest { IsTrue (L.is_honest register.number) → IsTrue (D.honest device) }
     ensures { OnOk result (length lanes.new.items ≡ length lanes.old.items + 1) }
 {
-    let Ok(guarded) = guarded_over(alloc, layout, options, device, seed, register) else {
+    let Ok(seated) = seated_over(alloc, layout, options, device, seed, register) else {
         return Err(AllocError);
     };
-    lanes.push(Mutex::new(CachePadded::new(guarded)))?;
+    lanes.push(Mutex::new(CachePadded::new(seated)))?;
     Ok(())
 }
 
-/// What the lock of a new lane keeps: an empty lane over a device, with this register, and its generator of words. The cache's seed
-/// gives both what they are seeded with, by the number of the lane in the book.
-fn guarded_over<D: PageDevice<PAGE>, const PAGE: usize, L: KeyLanes, J: BookName>(
+// What the lock of a new lane keeps: an empty lane over a device, with this register. The cache's seed gives what the lane and its
+// generator of words are seeded with, by the number of the lane in the book.
+fn seated_over<D: PageDevice<PAGE>, const PAGE: usize, L: KeyLanes, J: BookName>(
     alloc: Global,
     layout: &Layout,
     options: &ServiceOptions,
     device: D,
     seed: RandomSeed,
     register: Register<L, J>,
-) -> Result<Guarded<D, PAGE, L, J>, AllocError>
+) -> Result<SeatedLane<CountedPages<Boxed<D>>, PAGE, L, J>, AllocError>
     requires page_size { IsPageSize PAGE }
     requires slots { 1 ≤ options.now.lease_slots }
     requires room { layout_pages layout.now ≤ D.page_count device }
     requires few { L.lanes < 2 ^ 32 }
     requires honest { IsTrue (L.is_honest register.number) → IsTrue (D.honest device) }
-    ensures serving { IfOk result (λ guarded. IsNewLane layout.now options.now.lease_slots options.now.bring_back seed register.number
-        device guarded.lane.serving) }
-    ensures register { IfOk result (λ guarded. guarded.lane.register ≡ register) }
-    ensures words { IfOk result (λ guarded. guarded.words ≡ words_for seed register.number) }
+    ensures serving { IfOk result (λ seated. IsNewLane layout.now options.now.lease_slots
+        options.now.bring_back seed register.number device seated.serving) }
+    ensures register { IfOk result (λ seated. seated.register ≡ register) }
+    ensures words { IfOk result (λ seated. seated.words ≡ words_for seed register.number) }
 {
     let number = register.number() as u32;
     let counted = CountedPages::new(Boxed::new(alloc, device)?);
@@ -109,6 +110,5 @@ fn guarded_over<D: PageDevice<PAGE>, const PAGE: usize, L: KeyLanes, J: BookName
         counted,
         lane_seed,
     )?;
-    let lane = SeatedLane::new(lane, register);
-    Ok(Guarded::new(lane, words_of(seed, number)))
+    Ok(SeatedLane::new(lane, register, words_of(seed, number)))
 }

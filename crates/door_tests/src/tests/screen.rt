@@ -1,4 +1,5 @@
 //! The second output of a load, which is a terminal or is none.
+use std::alloc::Global;
 use std::io;
 use std::io::{Error, ErrorKind, IsTerminal, Write};
 
@@ -7,6 +8,16 @@ use std::io::{Error, ErrorKind, IsTerminal, Write};
 pub struct Screen {
     pub bytes: Vec<u8>,
     pub is_terminal: bool,
+}
+
+impl Screen {
+    /// One on which nothing was written, and which is no terminal.
+    pub fn new(alloc: Global) -> Screen {
+        Screen {
+            bytes: Vec::new(alloc),
+            is_terminal: false,
+        }
+    }
 }
 
 impl Write for Screen {

@@ -1,14 +1,13 @@
 //! Texts of cases. A case has steps, what they are given, and what they have to report, with a `^` between each two. A `@` ends a case.
 use crate::tests::judging::{
-    End, checked, counted, judged, junit_of, shown, streamed, trace_of, turn, whole,
+    End, checked, counted, judged, junit_of, page_of, shown, streamed, trace_of, turn, whole,
 };
-use crate::tests::made::is;
 use crate::tests::reading::{key_told, named, tell_came, told_of};
 use figures::Form;
 use judge_run::{Detail, JudgeEnd, Scope, TellFault};
 use std::alloc::{AllocError, Global};
 use std::test::Fail;
-use test_devices::{Scripted, Step, find_wrong_line};
+use test_devices::{Scripted, Step, find_wrong_line, is};
 
 /// What steps are given, what they have to report, and what is asked of those to come.
 #[derive(Drop)]
@@ -107,6 +106,8 @@ impl Case<'_> {
             tell_status(shown(alloc, given, step.word(), told), step)?;
         } else if is(word, b"junit") {
             junit_of(alloc, given, self.least, told)?;
+        } else if is(word, b"page") {
+            page_of(alloc, given, self.scope, told)?;
         } else if is(word, b"stream") {
             tell_end(
                 streamed(alloc, given, self.scope, step.number(), step.number()),

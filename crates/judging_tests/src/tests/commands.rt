@@ -2,6 +2,7 @@
 mod files;
 mod json;
 mod junit;
+mod pages;
 mod rows;
 mod seeds;
 mod streams;

@@ -4,7 +4,7 @@ use figures::Form;
 use history_text::{BadLine, LineCause, ReadTextFault};
 use judge_run::{
     Detail, JudgeEnd, Outcome, Scope, Shown, TellFault, answer_check, answer_judge, answer_show,
-    judge_stream, judge_text, junit_text, tell_found,
+    answer_with_page, judge_stream, judge_text, junit_text, tell_found,
 };
 use std::alloc::{AllocError, Global};
 use std::hash::{BuildHasherDefault, FoldHasher};
@@ -59,6 +59,48 @@ pub fn shown(
         Ok(JudgeEnd::BadInput)
     } else {
         Ok(JudgeEnd::FileFault)
+    }
+}
+
+/// What stands between the fixed parts of the page of a text.
+pub fn page_of(
+    alloc: Global,
+    mut text: &[u8],
+    scope: Scope,
+    told: &mut Vec<u8>,
+) -> Result<(), AllocError> {
+    let known: BuildHasherDefault<FoldHasher> = BuildHasherDefault::new();
+    let mut passed: Vec<u8> = Vec::new(alloc);
+    let mut detail = Detail::NONE;
+    detail.page = true;
+    let form = Form::Lines;
+    let Ok(answer) = answer_with_page(
+        alloc,
+        known,
+        form,
+        scope,
+        detail,
+        None,
+        &mut text,
+        &mut passed,
+    ) else {
+        return Err(AllocError);
+    };
+    match &answer.page {
+        Some(page) => told.extend_from_slice(between(page.as_slice())),
+        None => Ok(()),
+    }
+}
+
+/// What stands in a page after the head of its calls, and before the script that draws them.
+fn between(page: &[u8]) -> &[u8] {
+    let page = str::from_utf8(page).unwrap_or("");
+    let Some((_, rest)) = page.split_once("id=\"call-lines\">") else {
+        return &[];
+    };
+    match rest.split_once("<script>\n") {
+        Some((data, _)) => data.as_bytes(),
+        None => &[],
     }
 }
 

@@ -14,13 +14,8 @@ use std::alloc::{AllocError, Global};
 use std::hash::{BuildHasherDefault, FoldHasher};
 use std::mem::replace;
 use std::test::Fail;
-use test_devices::{Scripted, Step, run_text};
+use test_devices::{Scripted, Step, is, run_text};
 use trace_file::{Act, ActRef, Call, CallRef, Certificate, History};
-
-/// Whether a word is this one.
-pub fn is(word: &[u8], name: &[u8]) -> bool {
-    word == name
-}
 
 /// The history that the steps so far have made.
 #[derive(Drop)]

@@ -1,13 +1,12 @@
 //! Stamps from one clock: by one seat, by two, and by a thread that another one waited for.
 ghost use Rattle.std.specs.Prelude.{◌≡◌, IfOk};
 
-use super::super::texts::is;
 use shared_cache::{Clock, ClockSeat, LAST_STAMP};
 use std::alloc::Global;
 use std::sync::Wait;
 use std::test::Fail;
 use std::thread::{Threads, join};
-use test_devices::{Scripted, Step, run_text};
+use test_devices::{Scripted, Step, is, run_text};
 
 /// A seat and its clock.
 #[derive(Drop)]

@@ -282,15 +282,16 @@ fn gathered(alloc: Global, called: Vec<Called>, tally: &mut Tally) -> Result<Vec
 fn left<R: Threads + Wait + Sync>(
     rt: &R,
     alloc: Global,
-    cache: Cache,
+    cache: Box<Cache>,
     passes: Vec<Pass>,
     tally: &mut Tally,
 ) -> Result<Box<Finished<TestDevice>>, Fail>
-    requires ties { All (λ p. p.sight.clock ≡ cache.clock) passes.items }
-    requires lanes { 4 ≤ cache.layout.lanes }
+    requires ties { All (λ p. p.sight.clock ≡ cache.value.clock) passes.items }
+    requires lanes { 4 ≤ cache.value.layout.lanes }
 {
-    let called = beside_workers(rt, alloc, &cache, passes)?;
+    let called = beside_workers(rt, alloc, &*cache, passes)?;
     let passes = gathered(alloc, called, tally)?;
+    let cache = Box::into_inner(cache);
     Ok(Box::new(alloc, cache.finish(rt, passes)?)?)
 }
 

@@ -58,13 +58,14 @@ pub fn opened(
     alloc: Global,
     setup: &Setup,
     gate: &Arc<Gate, Global>,
-) -> Result<(Cache, Vec<Pass>), Fail>
-    ensures ties { IfOk result (λ o. All (λ p. p.sight.clock ≡ o.0.clock) o.1.items) }
-    ensures lanes { IfOk result (λ o. o.0.layout.lanes ≡ setup.now.config.lanes) }
+) -> Result<(Box<Cache>, Vec<Pass>), Fail>
+    ensures ties { IfOk result (λ o. All (λ p. p.sight.clock ≡ o.0.value.clock) o.1.items) }
+    ensures lanes { IfOk result (λ o. o.0.value.layout.lanes ≡ setup.now.config.lanes) }
 {
     let devices = devices_of(alloc, setup, gate)?;
     let policy = policy_of(setup, gate)?;
-    Ok(Cache::open(alloc, &setup.config, devices, policy, setup.callers)?)
+    let (cache, passes) = Cache::open(alloc, &setup.config, devices, policy, setup.callers)?;
+    Ok((Box::new(alloc, cache)?, passes))
 }
 
 // The policy of its moves.

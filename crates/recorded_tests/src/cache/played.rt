@@ -1,7 +1,6 @@
 //! The cache of a test's text, what its two callers do, and what is left of it.
 ghost use Rattle.std.specs.Prelude.{◌≡◌, ◌<◌, All, IfOk};
 
-use super::super::texts::{config_of, is};
 use super::gate::Gate;
 use super::opened::{Cache, PLAIN, Setup, opened};
 use super::run::{Ran, call, run};
@@ -13,19 +12,19 @@ use std::io::Eprint;
 use std::sync::{Arc, Wait};
 use std::test::Fail;
 use std::thread::{Threads, join};
-use test_devices::{Scripted, Step, run_text};
+use test_devices::{Scripted, Step, is, run_text};
 use trace_file::History;
 
 /// A cache that is open, its passes, and the lane of the rounds.
 #[derive(Drop)]
 struct Shared {
-    cache: Cache,
+    cache: Box<Cache>,
     first: Pass,
     second: Pass,
     lane: u32,
-    ghost first_tie: { first.sight.clock ≡ cache.clock },
-    ghost second_tie: { second.sight.clock ≡ cache.clock },
-    ghost within: { lane < cache.layout.lanes },
+    ghost first_tie: { first.sight.clock ≡ cache.value.clock },
+    ghost second_tie: { second.sight.clock ≡ cache.value.clock },
+    ghost within: { lane < cache.value.layout.lanes },
 }
 
 /// A cache that is to be ended, with those of its passes and of the kept ones that stand from one place to another, or after its callers
@@ -223,7 +222,7 @@ impl<'a, R> Table<'a, R> {
 
     // Opens a cache of a configuration.
     fn open(&mut self, alloc: Global, step: &mut Step<'_>) -> Result<(), Fail> {
-        self.setup.config = config_of(step);
+        self.setup.config = step.config();
         self.shared = Some(open_shared(alloc, &self.setup, &self.gate, self.lane)?);
         self.setup = PLAIN;
         Ok(())
@@ -309,7 +308,7 @@ fn open_shared(
         return Err("a lane".into());
     }
     let (cache, passes) = opened(alloc, setup, gate)?;
-    let (first, second) = two_of(&cache, passes)?;
+    let (first, second) = two_of(&*cache, passes)?;
     let shared = Shared {
         cache,
         first,
@@ -343,7 +342,7 @@ fn call_first<R: Wait>(
     call(
         rt,
         alloc,
-        &shared.cache,
+        &*shared.cache,
         &mut shared.first,
         shared.lane,
         word,
@@ -384,17 +383,36 @@ fn end<R: Threads + Sync>(
         second,
         lane: _,
     } = shared;
+    let passes = some_of(alloc, first, second, kept, from, to)?;
+    finished(rt, alloc, cache, passes)
+}
+
+// Those of two passes and then the kept ones that stand from one place to another.
+fn some_of(
+    alloc: Global,
+    first: Pass,
+    second: Pass,
+    kept: Vec<Pass>,
+    from: usize,
+    to: usize,
+) -> Result<Vec<Pass>, Fail> {
     let mut passes = Vec::from_array(alloc, [first, second])?;
     for pass in kept {
         passes.push(pass)?;
     }
     passes.truncate(to);
     let from = from.min(passes.len());
-    boxed(alloc, cache.finish(rt, passes.split_off(from)?))
+    Ok(passes.split_off(from)?)
 }
 
-fn boxed(alloc: Global, ended: Result<Finished<TestDevice>, FinishFault>) -> Result<Ended, Fail> {
-    match ended {
+// Ends a cache with these passes.
+fn finished<R: Threads + Sync>(
+    rt: &R,
+    alloc: Global,
+    cache: Box<Cache>,
+    passes: Vec<Pass>,
+) -> Result<Ended, Fail> {
+    match Box::into_inner(cache).finish(rt, passes) {
         Ok(left) => Ok(Ok(Box::new(alloc, left)?)),
         Err(fault) => Ok(Err(fault)),
     }
@@ -416,24 +434,28 @@ fn end_after<R: Threads + Wait + Sync + Eprint>(
         lane,
     } = shared;
     let (first, second) = if matches!(way, Way::OneByOne) {
-        let first = in_a_thread(rt, alloc, &cache, first, lane, beside.first);
+        let first = in_a_thread(rt, alloc, &*cache, first, lane, beside.first);
         (
             first,
-            in_a_thread(rt, alloc, &cache, second, lane, beside.second),
+            in_a_thread(rt, alloc, &*cache, second, lane, beside.second),
         )
     } else {
         let is_held = matches!(way, Way::AtTheGate);
         in_threads(
-            rt, alloc, &cache, gate, is_held, lane, beside, first, second,
+            rt, alloc, &*cache, gate, is_held, lane, beside, first, second,
         )
     };
-    if !first.is_right || !second.is_right {
-        return Err("a line of a thread".into());
+    let passes = both_of(alloc, first, second)?;
+    finished(rt, alloc, cache, passes)
+}
+
+// The passes of two callers, none of whose lines was wrong.
+fn both_of(alloc: Global, first: Ran, second: Ran) -> Result<Vec<Pass>, Fail> {
+    if first.is_right && second.is_right {
+        Ok(Vec::from_array(alloc, [first.pass, second.pass])?)
+    } else {
+        Err("a line of a thread".into())
     }
-    boxed(
-        alloc,
-        cache.finish(rt, Vec::from_array(alloc, [first.pass, second.pass])?),
-    )
 }
 
 // A caller in a thread of its own.

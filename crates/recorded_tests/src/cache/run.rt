@@ -1,7 +1,7 @@
 //! The calls of a shared cache, by their words.
 ghost use Rattle.std.specs.Prelude.{◌≡◌, ◌<◌};
 
-use super::super::texts::{is, name_of_flush, name_of_pushed, tell_answer};
+use super::super::texts::{name_of_flush, name_of_pushed, tell_answer};
 use super::opened::Cache;
 use record_pages::{Answer, NEVER, Pushed};
 use shared_cache::{CallFault, Moved, Pass};
@@ -10,7 +10,7 @@ use std::io::Eprint;
 use std::process::Termination;
 use std::sync::Wait;
 use std::test::Fail;
-use test_devices::{Scripted, Step, key, run_text, value};
+use test_devices::{Scripted, Step, is, key, run_text, value};
 
 // The moment of each get.
 const MOMENT: u64 = 5;
@@ -133,7 +133,16 @@ fn meet(pass: &mut Pass, step: &mut Step<'_>)
     }
 }
 
-// Puts a pair with the word that decides of the pair that leaves memory, once more if memory was refused.
+// What is put: the bytes of a key and of a value, the word that decides of the pair that leaves memory, and when the value expires.
+#[derive(Clone, Copy)]
+struct Asked<'a> {
+    name: &'a [u8],
+    bytes: &'a [u8],
+    low: u32,
+    expires: u64,
+}
+
+// Puts a pair, once more if memory was refused.
 fn put<R: Wait>(
     rt: &R,
     alloc: Global,
@@ -153,28 +162,35 @@ fn put<R: Wait>(
     } else {
         step.number()
     };
-    let first = cache.put(
-        rt,
-        pass,
-        key(alloc, &name)?,
-        value(alloc, &bytes)?,
+    let asked = Asked {
+        name: name.as_slice(),
+        bytes: bytes.as_slice(),
         low,
         expires,
-    );
-    match first {
+    };
+    match put_once(rt, alloc, cache, pass, &asked)? {
         Err(CallFault::OutOfMemory) => {
-            let again = cache.put(
-                rt,
-                pass,
-                key(alloc, &name)?,
-                value(alloc, &bytes)?,
-                low,
-                expires,
-            );
+            let again = put_once(rt, alloc, cache, pass, &asked)?;
             Ok(tell_stored(again, step))
         }
         other => Ok(tell_stored(other, step)),
     }
+}
+
+// Puts a pair.
+fn put_once<R: Wait>(
+    rt: &R,
+    alloc: Global,
+    cache: &Cache,
+    pass: &mut Pass,
+    asked: &Asked<'_>,
+) -> Result<Result<Pushed, CallFault>, Fail>
+    requires { pass.old.sight.clock ≡ cache.now.clock }
+    ensures { pass.new.sight.clock ≡ cache.now.clock }
+{
+    let key = key(alloc, asked.name)?;
+    let value = value(alloc, asked.bytes)?;
+    Ok(cache.put(rt, pass, key, value, asked.low, asked.expires))
 }
 
 fn tell_stored(stored: Result<Pushed, CallFault>, step: &mut Step<'_>) {

@@ -4,7 +4,7 @@ mod rows;
 mod run;
 
 use self::run::play;
-use super::super::texts::{config_of, is, name_of_flush, name_of_pushed, tell_act, tell_answer};
+use super::super::texts::{name_of_flush, name_of_pushed, tell_act, tell_answer};
 use mover::MovedWhole;
 use page_device::{FuseDevice, MemoryDevice, PageDevice};
 use record_pages::{Answer, Key, NEVER, Pushed};
@@ -13,7 +13,7 @@ use rriparoo::Rriparoo;
 use set_hash::place;
 use std::alloc::{AllocError, Global};
 use std::test::Fail;
-use test_devices::{Scripted, Spelled, Step, key, run_text, value};
+use test_devices::{Scripted, Spelled, Step, is, key, run_text, value};
 use trace_file::{ActRef, History};
 
 /// A lane over a device that refuses calls.

@@ -3,13 +3,12 @@ ghost use Rattle.std.specs.Prelude.{◌≡◌, ◌≤◌, ◌^◌, All, IfOk, le
 ghost use Rattle.std.specs.List.{flat_map};
 ghost use Rattle.certificate_checker.specs.Lanes.{calls_of, PointsRise};
 
-use super::super::texts::is;
 use certificate_checker::{Done, Verdict, check};
 use history_recorder::{Dones, lay_out};
 use record_pages::{Key, NEVER, Value};
 use std::alloc::Global;
 use std::test::Fail;
-use test_devices::{Scripted, Step, run_text};
+use test_devices::{Scripted, Step, is, run_text};
 use trace_file::{Act, ActRef, Call, CallRef, Certificate, History};
 
 /// A put of a key with itself as value, in a lane.

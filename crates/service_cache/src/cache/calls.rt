@@ -128,7 +128,7 @@ impl<
         if held.number() != number {
             return Err(SeatPutFault::Book(EntryFault::Foreign));
         }
-        held.put(&self.policy, seat, key, value, expires)
+        held.put_and_help(&self.policy, seat, key, value, expires)
     }
 
     /// Puts a value that was read elsewhere since the look-up that leased its key missed, if no put, fill or removal of the key
@@ -160,7 +160,7 @@ impl<
         if held.number() != number {
             return Err(SeatPutFault::Book(EntryFault::Foreign));
         }
-        held.fill(&self.policy, seat, lease, key, value, expires)
+        held.fill_and_help(&self.policy, seat, lease, key, value, expires)
     }
 
     /// Removes a key, by its bytes, and enters that in the list after all that the seat has seen, in one hold of its lane. It

@@ -35,7 +35,7 @@ impl<
     {
         let mut guard = self.lanes[lane as usize].lock(rt);
         let held = &mut **guard;
-        held.lane().counts()
+        held.counts()
     }
 
     /// What the device of a lane was asked since the cache was opened.
@@ -44,7 +44,7 @@ impl<
     {
         let mut guard = self.lanes[lane as usize].lock(rt);
         let held = &mut **guard;
-        held.lane().device().counts()
+        held.device().counts()
     }
 
     /// How full the log of a lane is.
@@ -53,7 +53,7 @@ impl<
     {
         let mut guard = self.lanes[lane as usize].lock(rt);
         let held = &mut **guard;
-        held.lane().log_usage()
+        held.log_usage()
     }
 
     /// How many objects of a lane are in memory.
@@ -62,6 +62,6 @@ impl<
     {
         let mut guard = self.lanes[lane as usize].lock(rt);
         let held = &mut **guard;
-        held.lane().memory_len()
+        held.memory_len()
     }
 }

@@ -7,9 +7,12 @@ ghost use Rattle.service_lane.specs.Asked.{IsLiveHit, IsMiss, TellsExpiry};
 ghost use Rattle.service_lane.specs.Counting.{counts_lease};
 ghost use Rattle.service_lane.specs.Leases.{writes_for};
 ghost use Rattle.service_lane.specs.Serving.{Gets};
+ghost use Rattle.service_cache.specs.Calls.{HasExpiry, HasMissed, IsHit, kind_of, looked_up};
+ghost use Rattle.service_cache.specs.Held.{LooksUp};
 ghost use Rattle.service_cache.specs.Refusals.{RefusesGet};
 
 use super::SeatedLane;
+use crate::looked_up::LookedUp;
 use crate::seat_fault::SeatFault;
 use deed_book::{BookName, KeyLanes, Seat};
 use mover::AnswerKind;
@@ -34,10 +37,15 @@ impl<D: PageDevice<PAGE>, const PAGE: usize, L: KeyLanes, J: BookName> SeatedLan
             key.now moment (answer_of seen found.new)) }
         ensures expires { IfOk result (λ seen. TellsExpiry (IsTrue (D.honest self.old.serving.store.device))
             seat.new key.now found.new seen) }
+        ensures hit { IfOk result (λ seen. IsHit L.is_honest L.lane_of seat.new key.now moment
+            (answer_of seen found.new)) }
+        ensures told { IfOk result (λ seen. HasExpiry L.is_honest L.lane_of seat.new key.now
+            found.new seen) }
         ensures seen { IsPrefix seat.old seat.new }
         ensures gets { IfOk result (λ seen. Gets PAGE D.honest D.failures D.held key.now moment
             (answer_of seen found.new) self.old.serving self.new.serving) }
         ensures number { self.new.register.number ≡ self.old.register.number }
+        ensures words { self.new.words ≡ self.old.words }
         ensures untouched { IfOk result (λ seen. IsMiss seen → found.new ≡ found.old) }
 
         // When it is refused, and what that leaves.
@@ -48,7 +56,10 @@ impl<D: PageDevice<PAGE>, const PAGE: usize, L: KeyLanes, J: BookName> SeatedLan
         let Ok(()) = self.register.look(seat) else {
             return Err(SeatFault::foreign(key));
         };
-        let seen = self.lane.get(key, moment, found)?;
+        let seen = match self.lane.get(key, moment, found) {
+            Ok(seen) => seen,
+            Err(fault) => return Err(SeatFault::Key(fault)),
+        };
         Ok(seen)
     }
 
@@ -60,5 +71,36 @@ impl<D: PageDevice<PAGE>, const PAGE: usize, L: KeyLanes, J: BookName> SeatedLan
         } }
     {
         self.lane.lease(key)
+    }
+
+    /// Looks a key of the lane up, and leases it at a miss.
+    pub(crate) fn get_or_lease(
+        &mut self,
+        seat: &mut Seat<L, J>,
+        key: &[u8],
+        moment: u64,
+        found: &mut ValueBuffer,
+    ) -> Result<LookedUp, SeatFault>
+        requires { L.lane_of key.now ≡ self.old.register.number }
+        ensures live { IfOk result (λ looked. IsHit L.is_honest L.lane_of seat.new key.now moment
+            (looked_up looked found.new)) }
+        ensures expires { IfOk result (λ looked. HasExpiry L.is_honest L.lane_of seat.new key.now
+            found.new (kind_of looked)) }
+        ensures seen { IsPrefix seat.old seat.new }
+        ensures looks { IfOk result (λ looked. LooksUp PAGE D.honest D.failures D.held key.now moment
+            looked found.new self.old.serving self.new.serving) }
+        ensures words { self.new.words ≡ self.old.words }
+        ensures untouched { IfOk result (λ looked. HasMissed looked → found.new ≡ found.old) }
+
+        // When it is refused, and what that leaves.
+        ensures cause { IfErr result (RefusesGet key.now) }
+        ensures answered { OnOk result (IsKey key.now) }
+        ensures refused { OnErr result (found.new ≡ found.old) }
+    {
+        match self.get(seat, key, moment, found) {
+            Ok(AnswerKind::Hit { tier, expires }) => Ok(LookedUp::Hit { tier, expires }),
+            Ok(AnswerKind::Miss(cause)) => Ok(LookedUp::Miss(cause, self.lease(key))),
+            Err(fault) => Err(fault),
+        }
     }
 }

@@ -48,11 +48,18 @@ impl<D: PageDevice<PAGE>, const PAGE: usize, L: KeyLanes, J: BookName> SeatedLan
             ↔ HasNoRoom L.lane_of self.old.register }
         ensures refused { IfErr result (λ fault. PutLeaves D.held L.lane_of key value expires fault
             self.old seat.old self.new seat.new) }
+        ensures words { self.new.words ≡ self.old.words }
     {
         let put = self.register.put(&key, &value, expires);
         let bytes = key.bytes();
-        enter_or_remove(&mut self.lane, &mut self.register, seat, put, bytes)?;
-        let pushed = self.lane.put_or_remove(key, value, word, expires)?;
+        match enter_or_remove(&mut self.lane, &mut self.register, seat, put, bytes) {
+            Ok(()) => {}
+            Err(fault) => return Err(SeatPutFault::Book(fault)),
+        }
+        let pushed = match self.lane.put_or_remove(key, value, word, expires) {
+            Ok(pushed) => pushed,
+            Err(fault) => return Err(SeatPutFault::Put(fault)),
+        };
         Ok(pushed)
     }
 
@@ -72,10 +79,17 @@ impl<D: PageDevice<PAGE>, const PAGE: usize, L: KeyLanes, J: BookName> SeatedLan
             ↔ (IsKey key.now × HasNoRoom L.lane_of self.old.register) }
         ensures refused { IfErr result (λ fault. RemovalLeaves D.held key.now fault self.old seat.old
             self.new seat.new) }
+        ensures words { self.new.words ≡ self.old.words }
     {
-        self.lane.remove(key)?;
+        match self.lane.remove(key) {
+            Ok(()) => {}
+            Err(fault) => return Err(SeatFault::Key(fault)),
+        }
         let removal = self.register.removal(key);
-        self.register.enter(seat, removal)?;
+        match self.register.enter(seat, removal) {
+            Ok(()) => {}
+            Err(fault) => return Err(SeatFault::Book(fault)),
+        }
         Ok(())
     }
 
@@ -109,23 +123,21 @@ impl<D: PageDevice<PAGE>, const PAGE: usize, L: KeyLanes, J: BookName> SeatedLan
         ensures large { IsErrOf result (SeatPutFault.Put PutFault.TooLarge) → room PAGE < object_size key value }
         ensures refused { IfErr result (λ fault. FillRefusalLeaves PAGE D.held key value expires word
             lease.writes fault self.old seat.old self.new seat.new) }
+        ensures words { self.new.words ≡ self.old.words }
     {
         let copy = KeyBuffer::of(&key);
         let put = self.register.put(&key, &value, expires);
-        match self.lane.fill(lease, key, value, word, expires)? {
-            Filled::Stale => Ok(Filled::Stale),
-            Filled::Stored(pushed) => {
-                let Err(fault) = enter_or_remove(
-                    &mut self.lane,
-                    &mut self.register,
-                    seat,
-                    put,
-                    copy.bytes(),
-                ) else {
-                    return Ok(Filled::Stored(pushed));
-                };
-                Err(SeatPutFault::Book(fault))
+        match self.lane.fill(lease, key, value, word, expires) {
+            Ok(Filled::Stored(pushed)) => {
+                let lane = &mut self.lane;
+                let bytes = copy.bytes();
+                if let Err(fault) = enter_or_remove(lane, &mut self.register, seat, put, bytes) {
+                    return Err(SeatPutFault::Book(fault));
+                }
+                Ok(Filled::Stored(pushed))
             }
+            Ok(Filled::Stale) => Ok(Filled::Stale),
+            Err(fault) => Err(SeatPutFault::Put(fault)),
         }
     }
 }

@@ -18,6 +18,7 @@ impl<D: PageDevice<PAGE>, const PAGE: usize, L: KeyLanes, J: BookName> SeatedLan
             ≡ self.old.serving.store.device }
         ensures due { result.is_due ≡ is_some (due_in self.new.serving) }
         ensures register { self.new.register ≡ self.old.register }
+        ensures words { self.new.words ≡ self.old.words }
     {
         self.lane.upkeep_step(policy)
     }
@@ -27,6 +28,7 @@ impl<D: PageDevice<PAGE>, const PAGE: usize, L: KeyLanes, J: BookName> SeatedLan
         ensures helps { Helps PAGE D.honest D.failures D.held (P.plan_of policy.now)
             self.old.serving result self.new.serving }
         ensures register { self.new.register ≡ self.old.register }
+        ensures words { self.new.words ≡ self.old.words }
     {
         self.lane.help(policy)
     }

@@ -12,7 +12,6 @@ mod trials;
 
 ghost use Rattle.std.specs.Prelude.{◌≡◌, IfOk, length};
 
-use super::words::is;
 use deed_book::{BookName, KeyLanes, Seat, UnnamedBook};
 use key_hash::RandomSeed;
 use page_device::{MemoryDevice, PageDevice};
@@ -25,7 +24,7 @@ use service_lane::Filled;
 use std::alloc::Global;
 use std::sync::Wait;
 use std::test::Fail;
-use test_devices::{Step, key, value};
+use test_devices::{Step, is, key, value};
 
 type Cache<D, L, J> = ServiceCache<D, Rriparoo, 256, L, J>;
 

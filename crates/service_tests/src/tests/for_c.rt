@@ -6,12 +6,12 @@ mod scripted;
 mod shapes;
 
 use self::scripted::play;
-use super::words::{is, place_among};
+use super::words::place_among;
 use c_lane::{CLane as LaneOver, Hit, LaneShape, Seed, Status};
 use page_device::MemoryDevice;
 use std::alloc::Global;
 use std::test::Fail;
-use test_devices::Step;
+use test_devices::{Step, is};
 
 type Device = MemoryDevice<4096>;
 

@@ -8,7 +8,7 @@ mod run;
 mod scripted;
 
 use self::scripted::play;
-use super::words::{is, place_among};
+use super::words::place_among;
 use klog::Flushed;
 use mover::{AnswerKind, MovedWhole};
 use page_device::MemoryDevice;
@@ -16,7 +16,7 @@ use record_pages::{Config, KeyFault, MissCause, NEVER, Pushed, PutFault, Tier};
 use service_lane::{Counter, Counts, Filled, Lease, ServiceLane, UpkeepStep, Upkept};
 use std::alloc::Global;
 use std::test::Fail;
-use test_devices::Step;
+use test_devices::{Step, is};
 
 type Lane = ServiceLane<MemoryDevice<256>, 256>;
 

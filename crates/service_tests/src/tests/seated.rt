@@ -12,7 +12,7 @@ use mover::AnswerKind;
 use page_device::MemoryDevice;
 use record_pages::{Config, Key, NEVER, Tier, Value, ValueBuffer};
 use service_cache::SeatedLane;
-use service_lane::ServiceLane;
+use service_lane::{ServiceLane, words_of};
 use std::alloc::{AllocError, Global};
 use std::marker::Brand;
 use std::sync::{Mutex, Wait};
@@ -77,7 +77,8 @@ fn locked<J: BookName>(
 ) -> Result<Box<Mutex<Lane<J>>>, AllocError>
     requires opened { lane.value.deeds ≡ [] }
 {
-    let seated = SeatedLane::new(Box::into_inner(lane), register);
+    let words = words_of(RandomSeed::fixed(), 0);
+    let seated = SeatedLane::new(Box::into_inner(lane), register, words);
     Ok(Box::new(alloc, Mutex::new(seated))?)
 }
 

@@ -17,13 +17,9 @@ static SEVEN: Summary = Summary {
 #[test]
 fn a_caller_that_stopped_is_told(rt: HostRuntime) -> Result<(), Fail> {
     let end = RunEnd::of_verdict(SEVEN.verdict, SEVEN.stopped);
-    assert!(rt; end == RunEnd::Stopped);
-    assert!(rt; end.status() == 3);
-    assert!(rt; end.message() == None);
-    assert!(rt;
-        SEVEN.text(rt.alloc(), Form::Lines)?.as_str()
-            == "calls 7\nhits 2\nstopped 1\naccepted 7 calls\n"
-    );
+    assert!(rt; end == RunEnd::Stopped && end.status() == 3 && end.message() == None);
+    let text = SEVEN.text(rt.alloc(), Form::Lines)?;
+    assert!(rt; text.as_str() == "calls 7\nhits 2\nstopped 1\naccepted 7 calls\n");
     Ok(())
 }
 
@@ -51,24 +47,15 @@ fn a_run_is_told_as_an_object(rt: HostRuntime) -> Result<(), Fail> {
             alloc,
             &SEVEN,
             "{\"calls\":7,\"hits\":2,\"stopped\":1,\"verdict\":\"accepted\"}\n"
-        )?
-    );
-    assert!(rt;
-        is_object(
+        )? && is_object(
             alloc,
             &judged(Verdict::Rejected(Fault::WrongHit { place: 3 })),
             "{\"calls\":400000,\"hits\":83368,\"stopped\":0,\"verdict\":\"rejected\",\"fault\":\"WrongHit\",\"place\":3}\n"
-        )?
-    );
-    assert!(rt;
-        is_object(
+        )? && is_object(
             alloc,
             &judged(Verdict::Rejected(Fault::BadInterval { position: 0 })),
             "{\"calls\":400000,\"hits\":83368,\"stopped\":0,\"verdict\":\"rejected\",\"fault\":\"BadInterval\",\"position\":0}\n"
-        )?
-    );
-    assert!(rt;
-        is_object(
+        )? && is_object(
             alloc,
             &judged(Verdict::Rejected(Fault::WrongCount)),
             "{\"calls\":400000,\"hits\":83368,\"stopped\":0,\"verdict\":\"rejected\",\"fault\":\"WrongCount\"}\n"
@@ -77,53 +64,36 @@ fn a_run_is_told_as_an_object(rt: HostRuntime) -> Result<(), Fail> {
     Ok(())
 }
 
-/// An end, and what it tells.
-#[derive(Clone, Copy)]
-struct Row {
-    end: RunEnd,
-    line: &'static [u8],
-}
-
-static ROWS: [Row; 7] = [
-    Row {
-        end: RunEnd::Accepted,
-        line: b"",
-    },
-    Row {
-        end: RunEnd::Rejected,
-        line: b"",
-    },
-    Row {
-        end: RunEnd::Stopped,
-        line: b"",
-    },
-    Row {
-        end: RunEnd::SharesExceed,
-        line: b"gets and removes exceed 100\n",
-    },
-    Row {
-        end: RunEnd::OutOfMemory,
-        line: b"out of memory\n",
-    },
-    Row {
-        end: RunEnd::FileFault,
-        line: b"file fault\n",
-    },
-    Row {
-        end: RunEnd::FinishFault,
-        line: b"finish fault\n",
-    },
+static ENDS: [RunEnd; 7] = [
+    RunEnd::Accepted,
+    RunEnd::Rejected,
+    RunEnd::Stopped,
+    RunEnd::SharesExceed,
+    RunEnd::OutOfMemory,
+    RunEnd::FileFault,
+    RunEnd::FinishFault,
 ];
 
-/// Whether an end tells the line of its row, and nothing else.
-fn is_told(alloc: Global, row: &Row) -> bool {
+/// The line that an end tells, if it tells one.
+fn line_of(end: RunEnd) -> &'static [u8] {
+    match end {
+        RunEnd::Accepted | RunEnd::Rejected | RunEnd::Stopped => b"",
+        RunEnd::SharesExceed => b"gets and removes exceed 100\n",
+        RunEnd::OutOfMemory => b"out of memory\n",
+        RunEnd::FileFault => b"file fault\n",
+        RunEnd::FinishFault => b"finish fault\n",
+    }
+}
+
+/// Whether an end tells its line, and nothing else.
+fn is_told(alloc: Global, end: RunEnd) -> bool {
     let mut err: Vec<u8> = Vec::new(alloc);
-    row.end.tell(&mut err).is_ok() && err.as_slice() == row.line
+    end.tell(&mut err).is_ok() && err.as_slice() == line_of(end)
 }
 
 #[test]
 fn each_end_tells_its_line(rt: HostRuntime) {
-    for row in &ROWS {
-        assert!(rt; is_told(rt.alloc(), row));
+    for end in &ENDS {
+        assert!(rt; is_told(rt.alloc(), *end));
     }
 }

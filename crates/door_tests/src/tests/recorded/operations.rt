@@ -1,168 +1,125 @@
 // The operations of loads by the words of PCG's reference generator, which its author's demonstration prints for the seed 42 and
 // the stream 54: a15c02b7, 7b47f409, ba1d3330, 83d2f293, bfa4784b, cbed606e. Modulo 100 the first is 83 and the fourth 55.
+ghost use Rattle.std.specs.Prelude.{◌≡◌};
+ghost use Rattle.load.specs.Operations.{next_of};
+
+use crate::tests::asked_loads::{run_by, run_of};
+use crate::tests::words::words_of;
 use history_recorder::Operation;
-use load::{FileName, Load, next_operation};
+use load::{Load, next_operation};
 use rand_core::utils::NextWord;
 use rand_pcg::Lcg64Xsh32;
-use record_pages::{Config, Layout, NEVER};
 use std::alloc::Global;
 use std::test::Fail;
+use test_devices::{Scripted, Step, is, run_text};
 
-/// What a caller does.
-#[derive(Clone, Copy)]
-enum Does {
-    Get(&'static [u8]),
-    Remove(&'static [u8]),
-    Put(&'static [u8], &'static [u8], u32),
+/// The generator that operations are drawn by.
+#[derive(Drop)]
+struct Drawing {
+    generator: Lcg64Xsh32,
 }
 
-/// A load, and what its callers do first.
-#[derive(Clone, Copy)]
-struct Row {
-    keys: u32,
-    value_bytes: u32,
-    gets: u32,
-    removes: u32,
-    first: Does,
-}
+impl Scripted for Drawing {
+    ghost use Rattle.std.specs.Prelude.{⊤};
 
-/// The value of caller 54 at its first operation.
-const VALUE: &[u8] = &[0, 0x36, 0, 0, 0, 0, 0, 0x36];
+    ghost can_act = { ⊤ };
 
-static ROWS: [Row; 9] = [
-    Row {
-        keys: 1,
-        value_bytes: 8,
-        gets: 0,
-        removes: 0,
-        first: Does::Put(b"k0", VALUE, 0xba1d_3330),
-    },
-    Row {
-        keys: 1,
-        value_bytes: 8,
-        gets: 100,
-        removes: 0,
-        first: Does::Get(b"k0"),
-    },
-    Row {
-        keys: 1,
-        value_bytes: 8,
-        gets: 0,
-        removes: 100,
-        first: Does::Remove(b"k0"),
-    },
-    Row {
-        keys: 1000,
-        value_bytes: 0,
-        gets: 70,
-        removes: 5,
-        first: Does::Put(b"k97", b"", 0xba1d_3330),
-    },
-    Row {
-        keys: 1000000,
-        value_bytes: 1,
-        gets: 83,
-        removes: 0,
-        first: Does::Put(b"k313097", b"\0", 0xba1d_3330),
-    },
-    Row {
-        keys: 1000,
-        value_bytes: 8,
-        gets: 84,
-        removes: 0,
-        first: Does::Get(b"k97"),
-    },
-    Row {
-        keys: 1000,
-        value_bytes: 8,
-        gets: 83,
-        removes: 1,
-        first: Does::Remove(b"k97"),
-    },
-    Row {
-        keys: 1000,
-        value_bytes: 8,
-        gets: 82,
-        removes: 1,
-        first: Does::Put(b"k97", VALUE, 0xba1d_3330),
-    },
-    Row {
-        keys: 1000,
-        value_bytes: 8,
-        gets: 100,
-        removes: 100,
-        first: Does::Get(b"k97"),
-    },
-];
-
-/// The numbers of a small cache.
-fn small_cache() -> Result<Layout, Fail> {
-    let config = Config {
-        lanes: 1,
-        sets: 1,
-        memory: 1,
-        segments: 2,
-        segment_pages: 1,
-        entries: 1,
-        threshold: 1,
-        admit: 0,
-    };
-    Ok(config.check()?)
-}
-
-/// The load of a row, whose numbers are in their ranges.
-fn load_of(alloc: Global, layout: Layout, row: &Row, ttl: u32) -> Result<Load, Fail> {
-    Ok(Load {
-        layout,
-        callers: 1,
-        operations: 1,
-        keys: row.keys.clamp(1, 1000000),
-        value_bytes: row.value_bytes.min(2048),
-        gets: row.gets.min(100),
-        removes: row.removes.min(100),
-        workers: 1,
-        seed: 42,
-        ttl: ttl.min(1000000),
-        json: false,
-        device: None,
-        trace: FileName::new(alloc, "t")?,
-    })
-}
-
-/// Whether an operation is this: a get of this moment, or a put that expires then.
-fn is(operation: &Operation, does: &Does, moment: u64, expires: u64) -> bool {
-    match (operation, does) {
-        (Operation::Get(key, at), Does::Get(name)) => key.bytes() == *name && *at == moment,
-        (Operation::Remove(key), Does::Remove(name)) => key.bytes() == *name,
-        (Operation::Put(key, value, word, until), Does::Put(name, bytes, admission)) => {
-            key.bytes() == *name
-                && value.bytes() == *bytes
-                && *word == *admission
-                && *until == expires
+    fn act(&mut self, alloc: Global, step: &mut Step<'_>) -> Result<(), Fail> {
+        let word = step.word();
+        if is(word, b"words") {
+            self.generator = Lcg64Xsh32::new(step.number(), step.number());
+        } else if is(word, b"word") {
+            step.tell_number(u64::from(self.generator.next_word()));
+        } else if is(word, b"draw") {
+            return draw(alloc, &mut self.generator, step);
+        } else {
+            step.refuse();
         }
-        _ => false,
+        Ok(())
     }
 }
 
-/// Whether the first operation of caller 54 is that of the row.
-fn holds(alloc: Global, layout: Layout, row: &Row) -> Result<bool, Fail> {
-    let load = load_of(alloc, layout, row, 0)?;
-    let mut generator = Lcg64Xsh32::new(42, 54);
-    let operation = next_operation(alloc, &mut generator, &load, 54, 0)?;
-    Ok(is(&operation, &row.first, 0, NEVER))
-}
-
-#[test]
-fn operations_are_those_of_the_words(rt: HostRuntime) -> Result<(), Fail> {
-    let layout = small_cache()?;
-    for row in &ROWS {
-        assert!(rt; holds(rt.alloc(), layout, row)?);
-    }
+/// Takes a caller, a number and the words of a load, and tells the operation that is drawn.
+fn draw(alloc: Global, generator: &mut Lcg64Xsh32, step: &mut Step<'_>) -> Result<(), Fail> {
+    let caller = u16::try_from(step.small())?;
+    let number = step.small();
+    let first = step.word();
+    let words = words_of(alloc, first, step)?;
+    let load = run_of(alloc, words.as_slice())?;
+    let operation = next_operation(alloc, generator, &*load, caller, number)?;
+    tell_operation(&operation, step);
     Ok(())
 }
 
-ghost use Rattle.std.specs.Prelude.{◌≡◌};
-ghost use Rattle.load.specs.Operations.{next_of};
+/// Tells an operation: a get with its moment, a put with its value, the word that admits it, and its expiry.
+fn tell_operation(operation: &Operation, step: &mut Step<'_>) {
+    match operation {
+        Operation::Get(key, moment) => {
+            step.tell(b"get");
+            step.tell(key.bytes());
+            step.tell_number(*moment);
+        }
+        Operation::Remove(key) => {
+            step.tell(b"remove");
+            step.tell(key.bytes());
+        }
+        Operation::Put(key, value, word, expires) => {
+            step.tell(b"put");
+            step.tell(key.bytes());
+            tell_value(value.bytes(), step);
+            step.tell_number(u64::from(*word));
+            step.tell_number(*expires);
+        }
+    }
+}
+
+/// Tells a value, and of a long one how long it is and its last byte.
+fn tell_value(value: &[u8], step: &mut Step<'_>) {
+    match value {
+        [.., last] if value.len() > 64 => {
+            step.tell_number(value.len() as u64);
+            step.tell_number(u64::from(*last));
+        }
+        _ => step.tell(value),
+    }
+}
+
+/// The first operation of caller 54, of loads that differ in their keys, the bytes of a value, gets and removes.
+static FIRST: &[u8] = b"
+words 42 54; draw 54 0 k run --trace t --keys 1 --value-bytes 8 --gets 0 --removes 0 -> put k0 \06\0\0\0\0\06 3122475824 18446744073709551615
+words 42 54; draw 54 0 k run --trace t --keys 1 --value-bytes 8 --gets 100 --removes 0 -> get k0 0
+words 42 54; draw 54 0 k run --trace t --keys 1 --value-bytes 8 --gets 0 --removes 100 -> remove k0
+words 42 54; draw 54 0 k run --trace t --keys 1000 --value-bytes 0 --gets 70 --removes 5 -> put k97 - 3122475824 18446744073709551615
+words 42 54; draw 54 0 k run --trace t --keys 1000000 --value-bytes 1 --gets 83 --removes 0 -> put k313097 \0 3122475824 18446744073709551615
+words 42 54; draw 54 0 k run --trace t --keys 1000 --value-bytes 8 --gets 84 --removes 0 -> get k97 0
+words 42 54; draw 54 0 k run --trace t --keys 1000 --value-bytes 8 --gets 83 --removes 1 -> remove k97
+words 42 54; draw 54 0 k run --trace t --keys 1000 --value-bytes 8 --gets 82 --removes 1 -> put k97 \06\0\0\0\0\06 3122475824 18446744073709551615
+words 42 54; draw 54 0 k run --trace t --keys 1000 --value-bytes 8 --gets 100 --removes 100 -> get k97 0
+";
+
+/// A put took three words and a get takes two, so the sixth is left. With a time to live of 7 the put of number 0 expires at
+/// 7, and the get of number 1 is made at 1.
+static SECOND: &[u8] = b"
+words 42 54
+draw 54 0 k run --trace t --keys 1000 --value-bytes 0 --gets 70 --removes 5 --ttl 7 -> put k97 - 3122475824 7
+draw 54 1 k run --trace t --keys 1000 --value-bytes 0 --gets 70 --removes 5 --ttl 7 -> get k955 1
+word 3421331566
+";
+
+/// Values repeat the caller, which is 258, and the number, 50595078.
+static VALUES: &[u8] = b"
+words 1 258; draw 258 50595078 k run --trace t --keys 1 --gets 0 --removes 0 --value-bytes 13 -> put k0 \x01\x02\x03\x04\x05\x06\x01\x02\x03\x04\x05\x06\x01 2226962284 18446744073709551615
+words 1 258; draw 258 50595078 k run --trace t --keys 1 --gets 0 --removes 0 --value-bytes 2048 -> put k0 2048 2 2226962284 18446744073709551615
+";
+
+#[test]
+fn operations_are_those_of_the_words(rt: HostRuntime) -> Result<(), Fail> {
+    for text in [FIRST, SECOND, VALUES] {
+        let generator = Lcg64Xsh32::new(0, 0);
+        run_text(rt.alloc(), &mut Drawing { generator }, text)?;
+    }
+    Ok(())
+}
 
 /// Draws the words of an operation, also if memory is refused for it: the operation after it has words of its own.
 fn pass_over(alloc: Global, generator: &mut Lcg64Xsh32, load: &Load, caller: u16, number: u32)
@@ -171,49 +128,15 @@ fn pass_over(alloc: Global, generator: &mut Lcg64Xsh32, load: &Load, caller: u16
     let _operation = next_operation(alloc, generator, load, caller, number);
 }
 
-/// A put took three words and a get takes two, so the sixth is left. With a time to live of 7 the put of number 0 expires at
-/// 7, and the get of number 1 is made at 1.
 #[test]
-fn operations_go_on_behind_the_words_that_were_drawn(rt: HostRuntime) -> Result<(), Fail> {
-    let layout = small_cache()?;
-    let load = load_of(rt.alloc(), layout, &ROWS[3], 7)?;
-    let mut generator = Lcg64Xsh32::new(42, 54);
-    let first = next_operation(rt.alloc(), &mut generator, &load, 54, 0)?;
-    let second = next_operation(rt.alloc(), &mut generator, &load, 54, 1)?;
-    assert!(rt; is(&first, &ROWS[3].first, 0, 7));
-    assert!(rt; is(&second, &Does::Get(b"k955"), 1, 0));
-    assert!(rt; generator.next_word() == 0xcbed_606e);
+fn operations_go_on_after_the_words_that_were_drawn(rt: HostRuntime) -> Result<(), Fail> {
+    let load = run_by(
+        rt.alloc(),
+        "k run --trace t --keys 1000 --value-bytes 0 --gets 70 --removes 5 --ttl 7",
+    )?;
     let mut passed = Lcg64Xsh32::new(42, 54);
-    pass_over(rt.alloc(), &mut passed, &load, 54, 0);
-    pass_over(rt.alloc(), &mut passed, &load, 54, 1);
+    pass_over(rt.alloc(), &mut passed, &*load, 54, 0);
+    pass_over(rt.alloc(), &mut passed, &*load, 54, 1);
     assert!(rt; passed.next_word() == 0xcbed_606e);
-    Ok(())
-}
-
-/// The value that caller 258 puts with the number 50595078, of this many bytes.
-fn value_of(alloc: Global, layout: Layout, value_bytes: u32) -> Result<Vec<u8>, Fail> {
-    let row = Row {
-        keys: 1,
-        value_bytes,
-        gets: 0,
-        removes: 0,
-        first: Does::Get(b""),
-    };
-    let load = load_of(alloc, layout, &row, 0)?;
-    let mut generator = Lcg64Xsh32::new(1, 258);
-    match next_operation(alloc, &mut generator, &load, 258, 0x0304_0506)? {
-        Operation::Put(_, value, ..) => Ok(value.bytes().to_vec(alloc)?),
-        _ => Ok(Vec::new(alloc)),
-    }
-}
-
-#[test]
-fn values_repeat_the_caller_and_the_number(rt: HostRuntime) -> Result<(), Fail> {
-    let layout = small_cache()?;
-    let value = value_of(rt.alloc(), layout, 13)?;
-    assert!(rt; value.as_slice() == [1, 2, 3, 4, 5, 6, 1, 2, 3, 4, 5, 6, 1].as_slice());
-    let longest = value_of(rt.alloc(), layout, 2048)?;
-    assert!(rt; longest.len() == 2048);
-    assert!(rt; longest[2047] == 2);
     Ok(())
 }

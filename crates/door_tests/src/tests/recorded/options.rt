@@ -1,259 +1,80 @@
 //! The options of a run: what each may be, and the load that they give.
-use command_line::{Line, LineFault, parse_line};
-use history_recorder::Operation;
-use load::{Load, SETTINGS, Setting, next_operation};
-use rand_pcg::Lcg64Xsh32;
-use std::alloc::{AllocError, Global};
+use crate::tests::asked::ask;
 use std::test::Fail;
 
-/// Whether words give a load whose setting is this number.
-fn gives(line: &Result<Line, LineFault>, setting: Setting, number: u32) -> bool {
-    match line {
-        Ok(Line::Run(load)) => number_of(load, setting) == number,
-        _ => false,
-    }
-}
+/// Each setting at the least and the greatest number that it may be, and at the next further out.
+static RANGES: &[u8] = b"
+k run --trace t --lanes 1 -> run lanes 1; k run --trace t --lanes 16 -> run lanes 16
+k run --trace t --lanes 0 -> refused; has --lanes; k run --trace t --lanes 17 -> refused; has --lanes
+k run --trace t --sets 1 -> run sets 1; k run --trace t --sets 65536 -> run sets 65536
+k run --trace t --sets 0 -> refused; has --sets; k run --trace t --sets 65537 -> refused; has --sets
+k run --trace t --memory 1 -> run memory 1; k run --trace t --memory 1048576 -> run memory 1048576
+k run --trace t --memory 0 -> refused; has --memory; k run --trace t --memory 1048577 -> refused; has --memory
+k run --trace t --segments 2 -> run segments 2; k run --trace t --segments 256 -> run segments 256
+k run --trace t --segments 1 -> refused; has --segments; k run --trace t --segments 257 -> refused; has --segments
+k run --trace t --segment-pages 1 -> run segment-pages 1; k run --trace t --segment-pages 64 -> run segment-pages 64
+k run --trace t --segment-pages 0 -> refused; has --segment-pages; k run --trace t --segment-pages 65 -> refused; has --segment-pages
+k run --trace t --entries 1 -> run entries 1; k run --trace t --entries 1048576 -> run entries 1048576
+k run --trace t --entries 0 -> refused; has --entries; k run --trace t --entries 1048577 -> refused; has --entries
+k run --trace t --threshold 1 -> run threshold 1; k run --trace t --threshold 32 -> run threshold 32
+k run --trace t --threshold 0 -> refused; has --threshold; k run --trace t --threshold 33 -> refused; has --threshold
+k run --trace t --admit 0 -> run admit 0; k run --trace t --admit 65536 -> run
+k run --trace t --admit 65537 -> refused; has --admit
+k run --trace t --callers 1 -> run callers 1; k run --trace t --callers 64 -> run callers 64
+k run --trace t --callers 0 -> refused; has --callers; k run --trace t --callers 65 -> refused; has --callers
+k run --trace t --operations 1 -> run operations 1; k run --trace t --operations 1000000 -> run operations 1000000
+k run --trace t --operations 0 -> refused; has --operations; k run --trace t --operations 1000001 -> refused; has --operations
+k run --trace t --keys 1 -> run keys 1; k run --trace t --keys 1000000 -> run keys 1000000
+k run --trace t --keys 0 -> refused; has --keys; k run --trace t --keys 1000001 -> refused; has --keys
+k run --trace t --value-bytes 0 -> run value-bytes 0; k run --trace t --value-bytes 2048 -> run value-bytes 2048
+k run --trace t --value-bytes 2049 -> refused; has --value-bytes
+k run --trace t --gets 0 -> run gets 0; k run --trace t --gets 100 -> run gets 100
+k run --trace t --gets 101 -> refused; has --gets
+k run --trace t --removes 0 -> run removes 0; k run --trace t --removes 100 -> run removes 100
+k run --trace t --removes 101 -> refused; has --removes
+k run --trace t --workers 1 -> run workers 1; k run --trace t --workers 16 -> run workers 16
+k run --trace t --workers 0 -> refused; has --workers; k run --trace t --workers 17 -> refused; has --workers
+k run --trace t --seed 0 -> run seed 0; k run --trace t --seed 4294967295 -> run seed 4294967295
+k run --trace t --seed 4294967296 -> refused; has --seed
+k run --trace t --ttl 0 -> run; k run --trace t --ttl 1000000 -> run ttl 1000000
+k run --trace t --ttl 1000001 -> refused; has --ttl
+";
 
-/// The number that a load has for a setting.
-fn number_of(load: &Load, setting: Setting) -> u32 {
-    match setting {
-        Setting::Lanes => load.layout.lanes,
-        Setting::Sets => load.layout.sets,
-        Setting::Memory => load.layout.memory,
-        Setting::Segments => load.layout.segments,
-        Setting::SegmentPages => load.layout.segment_pages,
-        Setting::Entries => load.layout.entries,
-        Setting::Threshold => load.layout.threshold,
-        Setting::Admit => load.layout.admit,
-        Setting::Callers => load.callers,
-        Setting::Operations => load.operations,
-        Setting::Keys => load.keys,
-        Setting::ValueBytes => load.value_bytes,
-        Setting::Gets => load.gets,
-        Setting::Removes => load.removes,
-        Setting::Workers => load.workers,
-        Setting::Seed => load.seed,
-        Setting::Ttl => load.ttl,
-        // Those of a load of a cache that serves.
-        _ => 0,
-    }
-}
+/// A setting that is not given is its default.
+static LOADS: &[u8] = b"
+k run --trace t -> run
+k run --trace t --device a~folder -> run device=a folder
+k run --device=d --lanes 2 --trace t -> run lanes 2 device=d
+k run --json --trace t -> run json
+";
 
-/// Whether words are told a usage that names an option.
-fn is_refused(line: &Result<Line, LineFault>, option: &str) -> bool {
-    match line {
-        Err(LineFault::Usage(text)) => text.as_str().contains(option),
-        _ => false,
-    }
-}
-
-/// Whether a setting takes its least and its greatest number and is the word of the table if it is not given, and
-/// takes none further out and no word.
-fn is_in_range(alloc: Global, setting: Setting) -> Result<bool, AllocError> {
-    let least = u64::from(setting.least());
-    let greatest = u64::from(setting.greatest());
-    Ok(
-        takes(alloc, setting, least)?
-            && takes(alloc, setting, greatest)?
-            && refuses(alloc, setting, greatest + 1)?
-            && (least == 0 || refuses(alloc, setting, least - 1)?),
-    )
-}
-
-/// Whether a setting takes a number.
-fn takes(alloc: Global, setting: Setting, number: u64) -> Result<bool, AllocError> {
-    let option = format!(in alloc; "--{}", setting.name())?;
-    let word = format!(in alloc; "{number}")?;
-    let line = line_with(alloc, option.as_str(), word.as_str());
-    Ok(gives(&line, setting, (number % 4294967296) as u32))
-}
-
-/// Whether a setting refuses a number.
-fn refuses(alloc: Global, setting: Setting, number: u64) -> Result<bool, AllocError> {
-    let option = format!(in alloc; "--{}", setting.name())?;
-    let word = format!(in alloc; "{number}")?;
-    let line = line_with(alloc, option.as_str(), word.as_str());
-    Ok(is_refused(&line, option.as_str()))
-}
-
-/// The line of a run with this option.
-fn line_with(alloc: Global, option: &str, word: &str) -> Result<Line, LineFault> {
-    parse_line(alloc, &["kangaroo", "run", "--trace", "t", option, word])
-}
+static NO_RUNS: &[u8] = b"
+k run -> refused; has --trace
+k run --trace -> refused; has --trace
+k run --trace t --lanes x -> refused; has error: --lanes takes a number from 1 to 16, not `x`|
+k run --trace t --lanes=17 -> refused; has error: --lanes takes a number from 1 to 16, not 17|
+k serve-load --size 1125899906842625 -> refused
+has error: --size takes a number from 0 to 1125899906842624, or as 512K, 100M or 64G, not 1125899906842625|
+k serve-load --leases -1 -> refused; has error:~
+k run --trace t --lanes ~ -> refused; has --lanes
+k run --trace t --lanes=4.0 -> refused; has --lanes
+k run --trace t --lanes=18446744073709551620 -> refused; has --lanes
+k run --trace t --device -> refused; has --device
+k run --trace t --devices d -> refused; has --devices
+k run --trace t more -> refused; has more
+";
 
 #[test]
 fn each_setting_takes_the_numbers_of_its_range(rt: HostRuntime) -> Result<(), Fail> {
-    for setting in &SETTINGS {
-        assert!(rt; is_in_range(rt.alloc(), *setting)?);
-    }
-    Ok(())
-}
-
-/// The default of each setting, in their order.
-static DEFAULTS: [u32; 17] = [
-    4, 64, 64, 8, 4, 4096, 2, 65536, 4, 10000, 1000, 100, 70, 5, 2, 1, 0,
-];
-
-#[test]
-fn a_setting_that_is_not_given_is_its_default(rt: HostRuntime) {
-    let line = parse_line(rt.alloc(), &["kangaroo", "run", "--trace", "t"]);
-    for place in 0..17usize {
-        assert!(rt; gives(&line, SETTINGS[place], DEFAULTS[place]));
-    }
-}
-
-/// Whether words give a load over the files of this folder, or in memory if it is none.
-fn gives_folder<'a>(alloc: Global, words: &'a [&'a str], folder: Option<&str>) -> bool {
-    match parse_line(alloc, words) {
-        Ok(Line::Run(load)) => is_folder(&load, folder),
-        _ => false,
-    }
-}
-
-/// Whether this is the folder of a load.
-fn is_folder(load: &Load, folder: Option<&str>) -> bool {
-    match (&load.device, folder) {
-        (Some(name), Some(folder)) => name.as_str() == folder,
-        (None, None) => true,
-        _ => false,
-    }
-}
-
-/// Words, and the folder that they give.
-static FOLDERS: [(&[&str], Option<&str>); 3] = [
-    (&["k", "run", "--trace", "t"], None),
-    (
-        &["k", "run", "--trace", "t", "--device", "a folder"],
-        Some("a folder"),
-    ),
-    (
-        &["k", "run", "--device=d", "--lanes", "2", "--trace", "t"],
-        Some("d"),
-    ),
-];
-
-#[test]
-fn a_folder_is_that_of_its_option(rt: HostRuntime) {
-    for (words, folder) in &FOLDERS {
-        assert!(rt; gives_folder(rt.alloc(), words, *folder));
-    }
-}
-
-/// Whether these words are told a usage that has this text.
-fn tells<'a>(alloc: Global, words: &'a [&'a str], text: &str) -> bool {
-    let line = parse_line(alloc, words);
-    is_refused(&line, text)
-}
-
-/// Words that are no run, and what their usage names.
-static NO_RUNS: [(&[&str], &str); 12] = [
-    (&["k", "run"], "--trace"),
-    (&["k", "run", "--trace"], "--trace"),
-    (
-        &["k", "run", "--trace", "t", "--lanes", "x"],
-        "error: --lanes takes a number from 1 to 16, not `x`\n",
-    ),
-    (
-        &["k", "run", "--trace", "t", "--lanes=17"],
-        "error: --lanes takes a number from 1 to 16, not 17\n",
-    ),
-    (
-        &["k", "serve-load", "--size", "1125899906842625"],
-        "error: --size takes a number from 0 to 1125899906842624, or as 512K, 100M or 64G, not 1125899906842625\n",
-    ),
-    (&["k", "serve-load", "--leases", "-1"], "error: "),
-    (&["k", "run", "--trace", "t", "--lanes", ""], "--lanes"),
-    (&["k", "run", "--trace", "t", "--lanes=4.0"], "--lanes"),
-    (
-        &["k", "run", "--trace", "t", "--lanes=18446744073709551620"],
-        "--lanes",
-    ),
-    (&["k", "run", "--trace", "t", "--device"], "--device"),
-    (&["k", "run", "--trace", "t", "--devices", "d"], "--devices"),
-    (&["k", "run", "--trace", "t", "more"], "more"),
-];
-
-#[test]
-fn what_is_no_run_gets_a_usage(rt: HostRuntime) {
-    for (words, named) in &NO_RUNS {
-        assert!(rt; tells(rt.alloc(), words, named));
-    }
-}
-
-/// Whether these words give a load that is reported as JSON.
-fn gives_json<'a>(alloc: Global, words: &'a [&'a str]) -> bool {
-    match parse_line(alloc, words) {
-        Ok(Line::Run(load)) => load.json,
-        Ok(Line::Serve(load)) => load.json,
-        _ => false,
-    }
+    ask(rt.alloc(), RANGES)
 }
 
 #[test]
-fn json_is_asked_for_by_its_flag(rt: HostRuntime) {
-    let alloc = rt.alloc();
-    assert!(rt; gives_json(alloc, &["k", "run", "--json", "--trace", "t"]));
-    assert!(rt; !gives_json(alloc, &["k", "run", "--trace", "t"]));
-    assert!(rt; gives_json(alloc, &["k", "serve-load", "--json"]));
-    assert!(rt; !gives_json(alloc, &["k", "serve-load"]));
+fn a_load_has_the_folder_and_the_form_of_its_options(rt: HostRuntime) -> Result<(), Fail> {
+    ask(rt.alloc(), LOADS)
 }
-
-/// Whether the first operation of caller 54 is the put of PCG's reference words for the seed 42 and the stream 54, if
-/// the load is that of these words.
-fn puts_first<'a>(alloc: Global, words: &'a [&'a str]) -> Result<bool, AllocError> {
-    match parse_line(alloc, words) {
-        Ok(Line::Run(load)) => is_first_put(alloc, &load),
-        _ => Ok(false),
-    }
-}
-
-/// Whether it is, of a load.
-fn is_first_put(alloc: Global, load: &Load) -> Result<bool, AllocError> {
-    let mut generator = Lcg64Xsh32::new(42, 54);
-    match next_operation(alloc, &mut generator, load, 54, 0)? {
-        Operation::Put(key, value, word, _) => Ok(
-            key.bytes() == b"k0".as_slice() && value.bytes() == FIRST_VALUE && word == 0xba1d_3330,
-        ),
-        _ => Ok(false),
-    }
-}
-
-/// The value of caller 54 at its first operation.
-static FIRST_VALUE: &[u8] = &[0, 0x36, 0, 0, 0, 0, 0, 0x36];
-
-/// The words of a load of puts, and of one of gets.
-static PUTS: &[&str] = &[
-    "bench",
-    "run",
-    "--value-bytes",
-    "8",
-    "--keys",
-    "1",
-    "--gets",
-    "0",
-    "--removes",
-    "0",
-    "--trace",
-    "t",
-];
-
-static GETS: &[&str] = &[
-    "bench",
-    "run",
-    "--value-bytes",
-    "8",
-    "--keys",
-    "1",
-    "--gets",
-    "100",
-    "--removes",
-    "0",
-    "--trace",
-    "t",
-];
 
 #[test]
-fn a_load_gives_the_operations_of_its_options(rt: HostRuntime) -> Result<(), Fail> {
-    assert!(rt; puts_first(rt.alloc(), PUTS)? && !puts_first(rt.alloc(), GETS)?);
-    Ok(())
+fn what_is_no_run_gets_a_usage(rt: HostRuntime) -> Result<(), Fail> {
+    ask(rt.alloc(), NO_RUNS)
 }

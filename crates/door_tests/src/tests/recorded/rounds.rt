@@ -3,8 +3,8 @@
 //! seen.
 ghost use Rattle.std.specs.Prelude.{◌≡◌};
 
-use super::runs::load_of;
 use super::seen::Seen;
+use crate::tests::asked_loads::run_by;
 use crate::tests::screen::Screen;
 use load::Load;
 use load_run::make_history;
@@ -16,38 +16,8 @@ use std::thread::Threads;
 use std::time::Clock;
 
 /// Lanes so small that what is put is soon on the device, and fewer workers than lanes.
-static LANES: &[&str] = &[
-    "k",
-    "run",
-    "--lanes",
-    "4",
-    "--sets",
-    "2",
-    "--memory",
-    "1",
-    "--segments",
-    "2",
-    "--segment-pages",
-    "1",
-    "--entries",
-    "64",
-    "--threshold",
-    "1",
-    "--callers",
-    "2",
-    "--workers",
-    "3",
-    "--operations",
-    "2000",
-    "--gets",
-    "40",
-    "--keys",
-    "50",
-    "--value-bytes",
-    "2000",
-    "--trace",
-    "no.trace",
-];
+static LANES: &str =
+    "k run --lanes 4 --sets 2 --memory 1 --segments 2 --segment-pages 1 --entries 64 --threshold 1 --callers 2 --workers 3 --operations 2000 --gets 40 --keys 50 --value-bytes 2000 --trace no.trace";
 
 /// How often a load is run until all is seen.
 const RUNS: u32 = 100;
@@ -60,10 +30,7 @@ fn is_run<R: Threads + Wait + Sync + Clock>(
     seen: &Seen,
 ) -> Result<bool, Fail> {
     let (cache, passes) = seen.open(alloc, load, load.callers as u16)?;
-    let mut screen = Screen {
-        bytes: Vec::new(alloc),
-        is_terminal: false,
-    };
+    let mut screen = Screen::new(alloc);
     match make_history(rt, alloc, load, cache, passes, &mut screen) {
         Ok(made) => Ok(made.stopped == 0),
         Err(_) => Ok(false),
@@ -92,10 +59,9 @@ fn is_all_seen<R: Threads + Wait + Sync + Clock>(
 #[test]
 fn workers_flush_and_move_in_each_lane(rt: HostRuntime) -> Result<(), Fail> {
     let alloc = rt.alloc();
-    let load = load_of(alloc, LANES).ok_or("a load")?;
-    let seen = Seen::new(alloc, &load, 1)?;
-    assert!(rt; is_all_seen(&rt, alloc, &load, &seen)?);
-    assert!(rt; seen.is_each_plan_written());
+    let load = run_by(alloc, LANES)?;
+    let seen = Seen::new(alloc, &*load, 1)?;
+    assert!(rt; is_all_seen(&rt, alloc, &*load, &seen)? && seen.is_each_plan_written());
     Ok(())
 }
 
@@ -103,9 +69,9 @@ fn workers_flush_and_move_in_each_lane(rt: HostRuntime) -> Result<(), Fail> {
 #[test]
 fn a_load_has_as_many_workers_as_it_says(rt: HostRuntime) -> Result<(), Fail> {
     let alloc = rt.alloc();
-    let load = load_of(alloc, LANES).ok_or("a load")?;
-    let seen = Seen::new(alloc, &load, 3)?;
-    assert!(rt; is_all_seen(&rt, alloc, &load, &seen)?);
+    let load = run_by(alloc, LANES)?;
+    let seen = Seen::new(alloc, &*load, 3)?;
+    assert!(rt; is_all_seen(&rt, alloc, &*load, &seen)?);
     Ok(())
 }
 
@@ -120,10 +86,7 @@ fn fault_of_short<R: Threads + Wait + Sync + Clock>(
     let Some(_) = passes.pop() else {
         return Ok(None);
     };
-    let mut screen = Screen {
-        bytes: Vec::new(alloc),
-        is_terminal: false,
-    };
+    let mut screen = Screen::new(alloc);
     match make_history(rt, alloc, load, cache, passes, &mut screen) {
         Ok(_) => Ok(None),
         Err(fault) => Ok(Some(fault)),
@@ -133,10 +96,10 @@ fn fault_of_short<R: Threads + Wait + Sync + Clock>(
 #[test]
 fn a_pass_that_is_missing_is_a_finish_fault(rt: HostRuntime) -> Result<(), Fail> {
     let alloc = rt.alloc();
-    let load = load_of(alloc, LANES).ok_or("a load")?;
-    let seen = Seen::new(alloc, &load, 1)?;
+    let load = run_by(alloc, LANES)?;
+    let seen = Seen::new(alloc, &*load, 1)?;
     assert!(rt;
-        fault_of_short(&rt, alloc, &load, &seen)? == Some(FinishFault::MissingPass { caller: 2 })
+        fault_of_short(&rt, alloc, &*load, &seen)? == Some(FinishFault::MissingPass { caller: 2 })
     );
     Ok(())
 }

@@ -1,103 +1,36 @@
 // Readers that are slow or fail, a writer that fails, and memory that may be refused.
+use super::played::play;
 use scripts::{ScriptFault, Scripted, run_script};
-use std::alloc::Global;
-use std::io;
-use std::io::{Error, ErrorKind, Read, Write};
 use std::test::Fail;
 
-/// A reader that gives a byte at a time, and fails once when there are this many bytes left. If it is
-/// read again it goes on.
-#[derive(Drop)]
-struct Slow<'a> {
-    rest: &'a [u8],
-    fails_at: Option<usize>,
-}
+/// A slow reader gives the same. If a read fails, neither the line that was being read nor a line after the fault is answered, though
+/// the reader would go on. A line is judged at its 4,097th byte, and a reader that fails after that is not asked.
+static SLOW: &[u8] = b"
+large; slow; config 1 1 4 2 1 8 1 65536 -> ready; put a 1 0 -> stored; get a -> hit 1 memory; get -> bad line 4; cut
+end bad line
+large; slow; fails 0; config 1 1 4 2 1 8 1 65536 -> ready; put a 1 0 -> stored; get a -> hit 1 memory; get ->; cut
+end read fault
+large; slow; fails 3; config 1 1 4 2 1 8 1 65536 -> ready; put a 1 0 -> stored; get a -> hit 1 memory; get ->; cut
+end read fault
+large; slow; fails 5; config 1 1 4 2 1 8 1 65536 -> ready; put a 1 0 -> stored; get a ->; get ->; cut; end read fault
+large; slow; fails 46; config 1 1 4 2 1 8 1 65536 ->; put a 1 0 ->; get a ->; get ->; cut; end read fault
+large; slow; fails 0; x*4097 -> bad line 1; cut; end bad line
+large; slow; fails 1; x*4097 ->; cut; end read fault
+";
 
-impl Read for Slow<'_> {
-    fn read(&mut self, buf: &mut [u8]) -> io::Result<usize> {
-        if self.fails_at == Some(self.rest.len()) {
-            self.fails_at = None;
-            return Err(Error::from(ErrorKind::Interrupted));
-        }
-        let Some((first, rest)) = self.rest.split_first() else {
-            return Ok(0);
-        };
-        if buf.is_empty() {
-            return Ok(0);
-        }
-        buf[0] = *first;
-        self.rest = rest;
-        Ok(1)
-    }
-}
-
-/// A writer that takes nothing.
-#[derive(Drop)]
-struct Broken;
-
-impl Write for Broken {
-    fn write(&mut self, _buf: &[u8]) -> io::Result<usize> {
-        Err(Error::from(ErrorKind::BrokenPipe))
-    }
-
-    fn flush(&mut self) -> io::Result<()> {
-        Ok(())
-    }
-}
-
-/// Whether a script that is read slowly, by a reader that fails once when there are this many bytes
-/// left, writes just this and ends so.
-fn is_answered(
-    alloc: Global,
-    input: &[u8],
-    fails_at: Option<usize>,
-    output: &[u8],
-    ending: Result<Scripted, ScriptFault>,
-) -> bool {
-    let mut slow = Slow {
-        rest: input,
-        fails_at,
-    };
-    let mut out: Vec<u8> = Vec::new(alloc);
-    let ended = run_script::<4096, Slow, Vec<u8>>(alloc, &mut slow, &mut out);
-    ended == ending && out.as_slice() == output
-}
-
-static INPUT: &[u8] = b"config 1 1 4 2 1 8 1 65536\nput a 1 0\nget a\nget";
+/// A writer may take nothing. Then the script is given up.
+static BROKEN: &[u8] = b"
+large; refuse-writes; config 1 1 4 2 1 8 1 65536 ->; end write fault
+";
 
 #[test]
-fn a_slow_reader_gives_the_same(rt: HostRuntime) {
-    let replies = b"ready\nstored\nhit 1 memory\nbad line 4\n";
-    assert!(rt; is_answered(rt.alloc(), INPUT, None, replies, Ok(Scripted::BadLine)));
-}
-
-/// Neither the line that was being read nor a line after the fault is answered, though the reader would go on.
-#[test]
-fn a_failed_read_is_not_tried_again(rt: HostRuntime) {
-    let fault = Err(ScriptFault::ReadFault);
-    let replies = b"ready\nstored\nhit 1 memory\n";
-    assert!(rt; is_answered(rt.alloc(), INPUT, Some(0), replies, fault));
-    assert!(rt; is_answered(rt.alloc(), INPUT, Some(3), replies, fault));
-    assert!(rt; is_answered(rt.alloc(), INPUT, Some(5), b"ready\nstored\n", fault));
-    assert!(rt; is_answered(rt.alloc(), INPUT, Some(INPUT.len()), b"", fault));
-}
-
-/// A line is judged at its 4,097th byte, and a reader that fails after that is not asked.
-#[test]
-fn a_line_too_long_is_judged_before_the_fault(rt: HostRuntime) -> Result<(), Fail> {
-    let long = vec![in rt.alloc(); b'x'; 4097]?;
-    let bad = b"bad line 1\n";
-    assert!(rt; is_answered(rt.alloc(), &long, Some(0), bad, Ok(Scripted::BadLine)));
-    let fault = Err(ScriptFault::ReadFault);
-    assert!(rt; is_answered(rt.alloc(), &long, Some(1), b"", fault));
-    Ok(())
+fn a_slow_reader_gives_the_same_until_it_fails(rt: HostRuntime) -> Result<(), Fail> {
+    play(rt.alloc(), SLOW)
 }
 
 #[test]
-fn a_writer_may_fail(rt: HostRuntime) {
-    let mut input = b"config 1 1 4 2 1 8 1 65536\n".as_slice();
-    let given_up = run_script::<4096, &[u8], Broken>(rt.alloc(), &mut input, &mut Broken);
-    assert!(rt; given_up == Err(ScriptFault::WriteFault));
+fn a_writer_may_fail(rt: HostRuntime) -> Result<(), Fail> {
+    play(rt.alloc(), BROKEN)
 }
 
 static TIERS: &[u8] =

@@ -3,46 +3,43 @@ use scripts::{Scripted, run_script};
 use std::alloc::Global;
 use std::test::Fail;
 
-static GOOD: [&[u8]; 7] = [
-    b"put a 1 4294967295",
-    b"put ~ ! 0",
-    b"flush",
-    b"move",
-    b"put a 1 0 18446744073709551615",
-    b"get a 18446744073709551615",
-    b"get a",
-];
+static GOOD: &[u8] = b"put a 1 4294967295
+put ~ ! 0
+flush
+move
+put a 1 0 18446744073709551615
+get a 18446744073709551615
+get a";
 
-static BAD: [&[u8]; 28] = [
-    b"put a 1 4294967296",
-    b"put a 1 0 18446744073709551616",
-    b"put a 1 0 never",
-    b"put a 1 0 00",
-    b"put a 1 0 1 2",
-    b"get a 18446744073709551616",
-    b"get a x",
-    b"get a 1 2",
-    b"put a 1 10000000000",
-    b"put a 1 00",
-    b"put a 1 07",
-    b"put a 1 +7",
-    b"put a 1 -7",
-    b"put  a 1 0",
-    b" put a 1 0",
-    b"put a 1 0 ",
-    b"put a\t1 0",
-    b"put a 1 0\r",
-    b"put a \x7f 0",
-    b"put a \x80 0",
-    b"config 1 1 4 2 1 8 1 65536",
-    b"Verdict",
-    b"flush x",
-    b"move x",
-    b"flush ",
-    b"Move",
-    b"flushes",
-    b"",
-];
+/// The last one is empty.
+static BAD: &[u8] = b"put a 1 4294967296
+put a 1 0 18446744073709551616
+put a 1 0 never
+put a 1 0 00
+put a 1 0 1 2
+get a 18446744073709551616
+get a x
+get a 1 2
+put a 1 10000000000
+put a 1 00
+put a 1 07
+put a 1 +7
+put a 1 -7
+put  a 1 0
+ put a 1 0
+put a 1 0\x20
+put a\t1 0
+put a 1 0\r
+put a \x7f 0
+put a \x80 0
+config 1 1 4 2 1 8 1 65536
+Verdict
+flush x
+move x
+flush\x20
+Move
+flushes
+";
 
 /// How a script with this second line ends.
 fn ends(alloc: Global, line: &[u8]) -> Result<Scripted, Fail> {
@@ -54,19 +51,23 @@ fn ends(alloc: Global, line: &[u8]) -> Result<Scripted, Fail> {
     Ok(run_script::<256, &[u8], Vec<u8>>(alloc, &mut reader, &mut out)?)
 }
 
-/// Whether each of these lines ends a script so.
-fn all_end(alloc: Global, lines: &[&[u8]], ending: Scripted) -> Result<bool, Fail> {
-    for line in lines {
+/// Whether there are so many lines, each of which ends a script so.
+fn all_end(alloc: Global, lines: &[u8], count: u32, ending: Scripted) -> Result<bool, Fail> {
+    let mut ended = 0u32;
+    for line in lines.split(|b| *b == b'\n') {
         if ends(alloc, line)? != ending {
             return Ok(false);
         }
+        ended = ended.wrapping_add(1);
     }
-    Ok(true)
+    Ok(ended == count)
 }
 
 #[test]
 fn lines_are_spelled_exactly(rt: HostRuntime) -> Result<(), Fail> {
-    assert!(rt; all_end(rt.alloc(), &GOOD, Scripted::Ended)?);
-    assert!(rt; all_end(rt.alloc(), &BAD, Scripted::BadLine)?);
+    assert!(rt;
+        all_end(rt.alloc(), GOOD, 7, Scripted::Ended)?
+            && all_end(rt.alloc(), BAD, 28, Scripted::BadLine)?
+    );
     Ok(())
 }

@@ -1,325 +1,162 @@
 //! The options of a load: what each may be, and the load that they give.
-use command_line::{Line, LineFault, parse_line};
-use load::{SERVE_SETTINGS, SETTINGS, SHAPE_SETTINGS, ServeLoad, Setting};
+use crate::tests::asked::ask;
+use load::{SERVE_SETTINGS, SETTINGS, Setting};
 use std::alloc::{AllocError, Global};
 use std::test::Fail;
 
-/// The number that a load has for a setting.
-fn number_of(load: &ServeLoad, setting: Setting) -> u32 {
-    match setting {
-        Setting::Lanes => load.layout.lanes,
-        Setting::Sets => load.layout.sets,
-        Setting::Memory => load.layout.memory,
-        Setting::Segments => load.layout.segments,
-        Setting::SegmentPages => load.layout.segment_pages,
-        Setting::Entries => load.layout.entries,
-        Setting::Threshold => load.layout.threshold,
-        Setting::Admit => load.layout.admit,
-        Setting::Callers => load.callers,
-        Setting::ServedOperations => load.operations,
-        Setting::ServedKeys => load.keys,
-        Setting::ServedValueBytes => load.value_bytes,
-        Setting::Gets => load.gets,
-        Setting::Removes => load.removes,
-        Setting::Workers => load.workers,
-        Setting::Seed => load.seed,
-        Setting::ServedTtl => load.ttl,
-        Setting::Shards => load.shards,
-        Setting::Leases => load.leases,
-        Setting::BringBack => load.bring_back,
-        Setting::Seconds => load.seconds,
-        // Those of a run.
-        _ => 0,
-    }
-}
+/// Each setting at the least and the greatest number that it may be, and at the next further out.
+static RANGES: &[u8] = b"
+k serve-load --lanes 1 -> serve lanes 1; k serve-load --lanes 16 -> serve lanes 16
+k serve-load --lanes 0 -> refused; has --lanes; k serve-load --lanes 17 -> refused; has --lanes
+k serve-load --sets 1 -> serve sets 1; k serve-load --sets 65536 -> serve sets 65536
+k serve-load --sets 0 -> refused; has --sets; k serve-load --sets 65537 -> refused; has --sets
+k serve-load --memory 1 -> serve memory 1; k serve-load --memory 1048576 -> serve memory 1048576
+k serve-load --memory 0 -> refused; has --memory; k serve-load --memory 1048577 -> refused; has --memory
+k serve-load --segments 2 -> serve segments 2; k serve-load --segments 256 -> serve segments 256
+k serve-load --segments 1 -> refused; has --segments; k serve-load --segments 257 -> refused; has --segments
+k serve-load --segment-pages 1 -> serve segment-pages 1; k serve-load --segment-pages 64 -> serve segment-pages 64
+k serve-load --segment-pages 0 -> refused; has --segment-pages; k serve-load --segment-pages 65 -> refused; has --segment-pages
+k serve-load --entries 1 -> serve entries 1; k serve-load --entries 1048576 -> serve entries 1048576
+k serve-load --entries 0 -> refused; has --entries; k serve-load --entries 1048577 -> refused; has --entries
+k serve-load --threshold 1 -> serve threshold 1; k serve-load --threshold 32 -> serve threshold 32
+k serve-load --threshold 0 -> refused; has --threshold; k serve-load --threshold 33 -> refused; has --threshold
+k serve-load --admit 0 -> serve admit 0; k serve-load --admit 65536 -> serve
+k serve-load --admit 65537 -> refused; has --admit
+k serve-load --callers 1 -> serve callers 1; k serve-load --callers 64 -> serve callers 64
+k serve-load --callers 0 -> refused; has --callers; k serve-load --callers 65 -> refused; has --callers
+k serve-load --operations 1 -> serve operations 1; k serve-load --operations 1000000000 -> serve operations 1000000000
+k serve-load --operations 0 -> refused; has --operations; k serve-load --operations 1000000001 -> refused; has --operations
+k serve-load --keys 1 -> serve keys 1; k serve-load --keys 100000000 -> serve keys 100000000
+k serve-load --keys 0 -> refused; has --keys; k serve-load --keys 100000001 -> refused; has --keys
+k serve-load --value-bytes 8 -> serve value-bytes 8; k serve-load --value-bytes 2048 -> serve value-bytes 2048
+k serve-load --value-bytes 7 -> refused; has --value-bytes; k serve-load --value-bytes 2049 -> refused; has --value-bytes
+k serve-load --gets 0 -> serve gets 0; k serve-load --gets 100 -> serve gets 100
+k serve-load --gets 101 -> refused; has --gets
+k serve-load --removes 0 -> serve removes 0; k serve-load --removes 100 -> serve removes 100
+k serve-load --removes 101 -> refused; has --removes
+k serve-load --workers 1 -> serve workers 1; k serve-load --workers 16 -> serve workers 16
+k serve-load --workers 0 -> refused; has --workers; k serve-load --workers 17 -> refused; has --workers
+k serve-load --seed 0 -> serve seed 0; k serve-load --seed 4294967295 -> serve seed 4294967295
+k serve-load --seed 4294967296 -> refused; has --seed
+k serve-load --ttl 0 -> serve; k serve-load --ttl 1000000000 -> serve ttl 1000000000
+k serve-load --ttl 1000000001 -> refused; has --ttl
+k serve-load --shards 1 -> serve; k serve-load --shards 1024 -> serve shards 1024
+k serve-load --shards 0 -> refused; has --shards; k serve-load --shards 1025 -> refused; has --shards
+k serve-load --leases 0 -> serve; k serve-load --leases 1048576 -> serve leases 1048576
+k serve-load --leases 1048577 -> refused; has --leases
+k serve-load --bring-back 0 -> serve; k serve-load --bring-back 1000000 -> serve bring-back 1000000
+k serve-load --bring-back 1000001 -> refused; has --bring-back
+k serve-load --seconds 0 -> serve; k serve-load --seconds 2147483648 -> serve seconds 2147483648
+k serve-load --seconds 2147483649 -> refused; has --seconds
+";
 
-/// Whether words give a load whose setting is this number.
-fn gives(line: &Result<Line, LineFault>, setting: Setting, number: u32) -> bool {
-    match line {
-        Ok(Line::Serve(load)) => number_of(load, setting) == number,
-        _ => false,
-    }
-}
+/// Sizes are the bytes of their units.
+static SIZES: &[u8] = b"
+k serve-load -> serve
+k serve-load --size 1125899906842624 --memory-bytes=0 -> serve size 1125899906842624 memory-bytes 0
+k serve-load --size 1125899906842625 -> refused; has --size
+k serve-load --memory-bytes 1125899906842625 -> refused; has --memory-bytes
+k serve-load --size 512K -> serve size 524288; k serve-load --size=9 --memory-bytes 512K -> serve size 9 memory-bytes 524288
+k serve-load --size 100M -> serve size 104857600; k serve-load --size=9 --memory-bytes 100M -> serve size 9 memory-bytes 104857600
+k serve-load --size 64G -> serve size 68719476736; k serve-load --size=9 --memory-bytes 64G -> serve size 9 memory-bytes 68719476736
+k serve-load --size +1G -> serve size 1073741824; k serve-load --size=9 --memory-bytes +1G -> serve size 9 memory-bytes 1073741824
+k serve-load --size 0K -> serve size 0; k serve-load --size=9 --memory-bytes 0K -> serve size 9 memory-bytes 0
+k serve-load --size 1048576G -> serve size 1125899906842624; k serve-load --size=9 --memory-bytes 1048576G -> serve size 9 memory-bytes 1125899906842624
+# No sizes are another letter, one alone, one that is not the last, and more bytes than a size may be, or than 64 bits hold.
+k serve-load --size 64T -> refused; has error: --size takes a number from 0 to 1125899906842624, or as 512K, 100M or 64G, not `64T`|
+k serve-load --memory-bytes 64T -> refused; has error: --memory-bytes takes a number from 0 to 1125899906842624, or as 512K, 100M or 64G, not `64T`|
+k serve-load --size 64g -> refused; has error: --size takes a number from 0 to 1125899906842624, or as 512K, 100M or 64G, not `64g`|
+k serve-load --memory-bytes 64g -> refused; has error: --memory-bytes takes a number from 0 to 1125899906842624, or as 512K, 100M or 64G, not `64g`|
+k serve-load --size 64KB -> refused; has error: --size takes a number from 0 to 1125899906842624, or as 512K, 100M or 64G, not `64KB`|
+k serve-load --memory-bytes 64KB -> refused; has error: --memory-bytes takes a number from 0 to 1125899906842624, or as 512K, 100M or 64G, not `64KB`|
+k serve-load --size 1K5 -> refused; has error: --size takes a number from 0 to 1125899906842624, or as 512K, 100M or 64G, not `1K5`|
+k serve-load --memory-bytes 1K5 -> refused; has error: --memory-bytes takes a number from 0 to 1125899906842624, or as 512K, 100M or 64G, not `1K5`|
+k serve-load --size K -> refused; has error: --size takes a number from 0 to 1125899906842624, or as 512K, 100M or 64G, not `K`|
+k serve-load --memory-bytes K -> refused; has error: --memory-bytes takes a number from 0 to 1125899906842624, or as 512K, 100M or 64G, not `K`|
+k serve-load --size ~ -> refused; has error: --size takes a number from 0 to 1125899906842624, or as 512K, 100M or 64G, not ``|
+k serve-load --memory-bytes ~ -> refused; has error: --memory-bytes takes a number from 0 to 1125899906842624, or as 512K, 100M or 64G, not ``|
+k serve-load --size 1.5G -> refused; has error: --size takes a number from 0 to 1125899906842624, or as 512K, 100M or 64G, not `1.5G`|
+k serve-load --memory-bytes 1.5G -> refused; has error: --memory-bytes takes a number from 0 to 1125899906842624, or as 512K, 100M or 64G, not `1.5G`|
+k serve-load --size 64~G -> refused; has error: --size takes a number from 0 to 1125899906842624, or as 512K, 100M or 64G, not `64 G`|
+k serve-load --memory-bytes 64~G -> refused; has error: --memory-bytes takes a number from 0 to 1125899906842624, or as 512K, 100M or 64G, not `64 G`|
+k serve-load --size 1048577G -> refused; has error: --size takes a number from 0 to 1125899906842624, or as 512K, 100M or 64G, not `1048577G`|
+k serve-load --memory-bytes 1048577G -> refused; has error: --memory-bytes takes a number from 0 to 1125899906842624, or as 512K, 100M or 64G, not `1048577G`|
+k serve-load --size 17179869184G -> refused; has error: --size takes a number from 0 to 1125899906842624, or as 512K, 100M or 64G, not `17179869184G`|
+k serve-load --memory-bytes 17179869184G -> refused; has error: --memory-bytes takes a number from 0 to 1125899906842624, or as 512K, 100M or 64G, not `17179869184G`|
+";
 
-/// Whether words are told a usage that names an option.
-fn is_refused(line: &Result<Line, LineFault>, option: &str) -> bool {
-    match line {
-        Err(LineFault::Usage(text)) => text.as_str().contains(option),
-        _ => false,
-    }
-}
+/// The flags, and limits that are no numbers.
+static FLAGS: &[u8] = b"
+k serve-load --json -> serve json
+k serve-load --zipf -> serve zipf
+k serve-load --zipf=1 -> refused; has error: unexpected value '1' for '--zipf' found
+k serve-load --zipf 1 -> refused; has error: unexpected argument '1' found
+k serve-load --seconds x -> refused; has --seconds
+k serve-load --seconds ~ -> refused; has --seconds
+k serve-load --seconds 1.5 -> refused; has --seconds
+k serve-load --seconds 1K -> refused; has --seconds
+k serve-load --seconds 2147483649 -> refused; has --seconds
+";
 
-/// Whether an option takes a number: it does if the setting has it then.
-fn takes(alloc: Global, setting: Setting, number: u64) -> Result<bool, AllocError> {
-    let option = format!(in alloc; "--{}", setting.name())?;
-    let word = format!(in alloc; "{number}")?;
-    let line = parse_line(alloc, &["k", "serve-load", option.as_str(), word.as_str()]);
-    Ok(gives(&line, setting, (number % 4294967296) as u32))
-}
-
-/// Whether an option refuses a number.
-fn refuses(alloc: Global, name: &str, number: u64) -> Result<bool, AllocError> {
-    let option = format!(in alloc; "--{name}")?;
-    let word = format!(in alloc; "{number}")?;
-    let line = parse_line(alloc, &["k", "serve-load", option.as_str(), word.as_str()]);
-    Ok(is_refused(&line, option.as_str()))
-}
-
-/// Whether a setting takes its least and its greatest number, and none further out.
-fn is_in_range(alloc: Global, setting: Setting) -> Result<bool, AllocError> {
-    let least = u64::from(setting.least());
-    let greatest = u64::from(setting.greatest());
-    Ok(
-        takes(alloc, setting, least)?
-            && takes(alloc, setting, greatest)?
-            && refuses(alloc, setting.name(), greatest + 1)?
-            && (least == 0 || refuses(alloc, setting.name(), least - 1)?),
-    )
-}
+/// What a size determines may not be given with one, also if it is given its default.
+static WITH_SIZE: &[u8] = b"
+k serve-load --size 1M --lanes 4 -> refused
+has error: --lanes can't be given with --size, which determines it: leave --lanes or --size out|
+k serve-load --size 1M --sets 64 -> refused
+has error: --sets can't be given with --size, which determines it: leave --sets or --size out|
+k serve-load --size 1M --memory 64 -> refused
+has error: --memory can't be given with --size, which determines it: leave --memory or --size out|
+k serve-load --size 1M --segments 8 -> refused
+has error: --segments can't be given with --size, which determines it: leave --segments or --size out|
+k serve-load --size 1M --segment-pages 4 -> refused
+has error: --segment-pages can't be given with --size, which determines it: leave --segment-pages or --size out|
+k serve-load --size 1M --entries 4096 -> refused
+has error: --entries can't be given with --size, which determines it: leave --entries or --size out|
+k serve-load --size 1M --shards 1 -> refused
+has error: --shards can't be given with --size, which determines it: leave --shards or --size out|
+# Numbers are refused first, then sizes, then what a size determines.
+k serve-load --size x --shards=1 --ttl=x -> refused; has error: --ttl takes~
+k serve-load --size x --shards=1 -> refused; has error: --size takes~
+k serve-load --size=1 --shards=1 --memory=1 -> refused; has error: --memory can't be given~
+# The other settings may be given.
+k serve-load --size=1M --threshold=3 --admit=7 --leases=5 --bring-back=9 -> serve threshold 3 admit 7 leases 5 bring-back 9 size 1048576
+";
 
 #[test]
 fn each_setting_takes_the_numbers_of_its_range(rt: HostRuntime) -> Result<(), Fail> {
-    for setting in &SERVE_SETTINGS {
-        assert!(rt; is_in_range(rt.alloc(), *setting)?);
-    }
-    Ok(())
-}
-
-/// The default of each setting, in their order.
-static DEFAULTS: [u32; 21] = [
-    4, 64, 64, 8, 4, 4096, 2, 65536, 4, 1000000, 1000, 100, 70, 5, 2, 1, 0, 1, 0, 0, 0,
-];
-
-#[test]
-fn a_setting_that_is_not_given_is_its_default(rt: HostRuntime) {
-    let line = parse_line(rt.alloc(), &["k", "serve-load"]);
-    for place in 0..21usize {
-        assert!(rt; gives(&line, SERVE_SETTINGS[place], DEFAULTS[place]));
-    }
-}
-
-/// Whether words give a load of these sizes.
-fn gives_sizes<'a>(
-    alloc: Global,
-    words: &'a [&'a str],
-    size: Option<u64>,
-    memory: Option<u64>,
-) -> bool {
-    match parse_line(alloc, words) {
-        Ok(Line::Serve(load)) => load.size == size && load.memory_bytes == memory,
-        _ => false,
-    }
+    ask(rt.alloc(), RANGES)
 }
 
 #[test]
-fn sizes_are_those_of_their_options(rt: HostRuntime) -> Result<(), Fail> {
-    let alloc = rt.alloc();
-    assert!(rt; gives_sizes(alloc, &["k", "serve-load"], None, None));
-    assert!(rt;
-        gives_sizes(
-            alloc,
-            &[
-                "k",
-                "serve-load",
-                "--size",
-                "1125899906842624",
-                "--memory-bytes=0"
-            ],
-            Some(1125899906842624),
-            Some(0)
-        )
-    );
-    assert!(rt; refuses(alloc, "size", 1125899906842625)?);
-    assert!(rt; refuses(alloc, "memory-bytes", 1125899906842625)?);
-    Ok(())
-}
-
-/// Whether words give a load that draws its keys by Zipf's law, or alike.
-fn draws(alloc: Global, words: &[&str], zipf: bool) -> bool {
-    match parse_line(alloc, words) {
-        Ok(Line::Serve(load)) => load.zipf == zipf,
-        _ => false,
-    }
+fn a_size_is_the_bytes_of_its_units(rt: HostRuntime) -> Result<(), Fail> {
+    ask(rt.alloc(), SIZES)
 }
 
 #[test]
-fn keys_are_drawn_by_zipfs_law_if_the_flag_is_given(rt: HostRuntime) {
-    let alloc = rt.alloc();
-    assert!(rt; draws(alloc, &["k", "serve-load"], false));
-    assert!(rt; draws(alloc, &["k", "serve-load", "--json"], false));
-    assert!(rt; draws(alloc, &["k", "serve-load", "--zipf"], true));
-    let valued = parse_line(alloc, &["k", "serve-load", "--zipf=1"]);
-    assert!(rt; is_refused(&valued, "error: unexpected value '1' for '--zipf' found"));
-    let followed = parse_line(alloc, &["k", "serve-load", "--zipf", "1"]);
-    assert!(rt; is_refused(&followed, "error: unexpected argument '1' found"));
-}
-
-#[test]
-fn a_limit_that_is_no_number_is_refused_by_name(rt: HostRuntime) {
-    for text in ["x", "", "1.5", "1K", "2147483649"] {
-        let line = parse_line(rt.alloc(), &["k", "serve-load", "--seconds", text]);
-        assert!(rt; is_refused(&line, "--seconds"));
-    }
-}
-
-/// A text of a size, and its bytes.
-#[derive(Clone, Copy)]
-struct Units {
-    text: &'static str,
-    bytes: u64,
-}
-
-static UNITS: [Units; 6] = [
-    Units {
-        text: "512K",
-        bytes: 524288,
-    },
-    Units {
-        text: "100M",
-        bytes: 104857600,
-    },
-    Units {
-        text: "64G",
-        bytes: 68719476736,
-    },
-    Units {
-        text: "+1G",
-        bytes: 1073741824,
-    },
-    Units {
-        text: "0K",
-        bytes: 0,
-    },
-    Units {
-        text: "1048576G",
-        bytes: 1125899906842624,
-    },
-];
-
-#[test]
-fn a_size_is_the_bytes_of_its_units(rt: HostRuntime) {
-    let alloc = rt.alloc();
-    for row in &UNITS {
-        let words = ["k", "serve-load", "--size", row.text];
-        assert!(rt; gives_sizes(alloc, &words, Some(row.bytes), None));
-        let words = ["k", "serve-load", "--size=9", "--memory-bytes", row.text];
-        assert!(rt; gives_sizes(alloc, &words, Some(9), Some(row.bytes)));
-    }
-}
-
-/// Texts that are no size: another letter, one alone, one that is not the last, and more bytes than a size may be, or than 64
-/// bits hold.
-static NO_SIZES: [&str; 10] = [
-    "64T",
-    "64g",
-    "64KB",
-    "1K5",
-    "K",
-    "",
-    "1.5G",
-    "64 G",
-    "1048577G",
-    "17179869184G",
-];
-
-/// Whether an option of bytes refuses a text, by its name and with what it takes.
-fn refuses_text(alloc: Global, option: &str, text: &str) -> Result<bool, AllocError> {
-    let line = parse_line(alloc, &["k", "serve-load", option, text]);
-    let told = format!(in alloc;
-        "error: {option} takes a number from 0 to 1125899906842624, or as 512K, 100M or 64G, not `{text}`\n"
-    )?;
-    Ok(is_refused(&line, told.as_str()))
-}
-
-#[test]
-fn a_text_that_is_no_size_is_refused_by_name(rt: HostRuntime) -> Result<(), Fail> {
-    for text in &NO_SIZES {
-        assert!(rt; refuses_text(rt.alloc(), "--size", text)?);
-        assert!(rt; refuses_text(rt.alloc(), "--memory-bytes", text)?);
-    }
-    Ok(())
-}
-
-/// Whether a setting that a size determines is refused with one, also if it is given its default.
-fn is_not_with_size(alloc: Global, setting: Setting) -> Result<bool, AllocError> {
-    let option = format!(in alloc; "--{}", setting.name())?;
-    let told = format!(in alloc;
-        "error: {option} can't be given with --size, which determines it: leave {option} or --size out\n"
-    )?;
-    let words = [
-        "k",
-        "serve-load",
-        "--size",
-        "1M",
-        option.as_str(),
-        setting.default_word(),
-    ];
-    let line = parse_line(alloc, &words);
-    Ok(is_refused(&line, told.as_str()))
+fn keys_are_drawn_by_zipfs_law_if_the_flag_is_given(rt: HostRuntime) -> Result<(), Fail> {
+    ask(rt.alloc(), FLAGS)
 }
 
 #[test]
 fn a_setting_that_a_size_determines_is_refused_with_one(rt: HostRuntime) -> Result<(), Fail> {
-    for setting in &SHAPE_SETTINGS {
-        assert!(rt; is_not_with_size(rt.alloc(), *setting)?);
+    ask(rt.alloc(), WITH_SIZE)
+}
+
+/// Whether the help of each setting ends with its default.
+fn tell_defaults(alloc: Global, settings: &[Setting]) -> Result<bool, AllocError> {
+    for setting in settings {
+        let told = format!(in alloc; " [default: {}]", setting.default_word())?;
+        if !setting.meaning().ends_with(told.as_str()) {
+            return Ok(false);
+        }
     }
-    Ok(())
-}
-
-/// Words of which more than one is wrong, and the option that is refused.
-static ORDER: [(&[&str], &str); 3] = [
-    (
-        &["k", "serve-load", "--size", "x", "--shards=1", "--ttl=x"],
-        "error: --ttl takes ",
-    ),
-    (
-        &["k", "serve-load", "--size", "x", "--shards=1"],
-        "error: --size takes ",
-    ),
-    (
-        &["k", "serve-load", "--size=1", "--shards=1", "--memory=1"],
-        "error: --memory can't be given ",
-    ),
-];
-
-#[test]
-fn numbers_are_refused_first_then_sizes_then_what_a_size_determines(rt: HostRuntime) {
-    for (words, told) in &ORDER {
-        assert!(rt; is_refused(&parse_line(rt.alloc(), words), told));
-    }
-}
-
-#[test]
-fn with_a_size_the_other_settings_may_be_given(rt: HostRuntime) {
-    let words = [
-        "k",
-        "serve-load",
-        "--size=1M",
-        "--threshold=3",
-        "--admit=7",
-        "--leases=5",
-        "--bring-back=9",
-    ];
-    let line = parse_line(rt.alloc(), &words);
-    assert!(rt; gives(&line, Setting::Threshold, 3));
-    assert!(rt; gives(&line, Setting::Admit, 7));
-    assert!(rt; gives(&line, Setting::Leases, 5));
-    assert!(rt; gives(&line, Setting::BringBack, 9));
-}
-
-/// Whether the help of a setting ends with its default.
-fn tells_default(alloc: Global, setting: Setting) -> Result<bool, AllocError> {
-    let told = format!(in alloc; " [default: {}]", setting.default_word())?;
-    Ok(setting.meaning().ends_with(told.as_str()))
+    Ok(true)
 }
 
 #[test]
 fn the_help_of_each_setting_ends_with_its_default(rt: HostRuntime) -> Result<(), Fail> {
-    for setting in &SERVE_SETTINGS {
-        assert!(rt; tells_default(rt.alloc(), *setting)?);
-    }
-    for setting in &SETTINGS {
-        assert!(rt; tells_default(rt.alloc(), *setting)?);
-    }
+    assert!(rt;
+        tell_defaults(rt.alloc(), &SERVE_SETTINGS)? && tell_defaults(rt.alloc(), &SETTINGS)?
+    );
     Ok(())
 }

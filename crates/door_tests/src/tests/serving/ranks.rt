@@ -4,117 +4,57 @@ use rand_core::utils::NextWord;
 use rand_pcg::Lcg64Xsh32;
 use std::alloc::{AllocError, Global};
 use std::test::Fail;
+use test_devices::{Scripted, Step, run_text};
 use zipf::scattered;
 
-/// So many ranks, a word, and the rank that it draws.
-#[derive(Clone, Copy)]
-struct Row {
-    ranks: u32,
-    word: u32,
-    rank: u32,
-}
+/// Words at the ends of the ranks, and on both sides of where one rank ends: how many ranks there are, a word, and the rank that it
+/// draws. With 3,000,000 ranks not each has a sum of its own.
+static WORDS: &[u8] = b"
+1 0 0
+1 4294967295 0
+2 0 0
+2 2863311530 0
+2 2863311531 1
+2 4294967295 1
+3 2342709434 0
+3 2342709435 1
+3 3514064151 1
+3 3514064152 2
+3 4294967295 2
+10 2199563255 2
+10 4294967295 9
+3000000 0 0
+3000000 2068313097 974
+3000000 4026531840 1139065
+3000000 4278190081 2823790
+3000000 4294967295 2999999
+";
 
-/// Words at the ends of the ranks, and on both sides of where one rank ends. With 3,000,000 ranks not each has a sum of its own.
-static ROWS: [Row; 18] = [
-    Row {
-        ranks: 1,
-        word: 0,
-        rank: 0,
-    },
-    Row {
-        ranks: 1,
-        word: 4294967295,
-        rank: 0,
-    },
-    Row {
-        ranks: 2,
-        word: 0,
-        rank: 0,
-    },
-    Row {
-        ranks: 2,
-        word: 2863311530,
-        rank: 0,
-    },
-    Row {
-        ranks: 2,
-        word: 2863311531,
-        rank: 1,
-    },
-    Row {
-        ranks: 2,
-        word: 4294967295,
-        rank: 1,
-    },
-    Row {
-        ranks: 3,
-        word: 2342709434,
-        rank: 0,
-    },
-    Row {
-        ranks: 3,
-        word: 2342709435,
-        rank: 1,
-    },
-    Row {
-        ranks: 3,
-        word: 3514064151,
-        rank: 1,
-    },
-    Row {
-        ranks: 3,
-        word: 3514064152,
-        rank: 2,
-    },
-    Row {
-        ranks: 3,
-        word: 4294967295,
-        rank: 2,
-    },
-    Row {
-        ranks: 10,
-        word: 2199563255,
-        rank: 2,
-    },
-    Row {
-        ranks: 10,
-        word: 4294967295,
-        rank: 9,
-    },
-    Row {
-        ranks: 3000000,
-        word: 0,
-        rank: 0,
-    },
-    Row {
-        ranks: 3000000,
-        word: 2068313097,
-        rank: 974,
-    },
-    Row {
-        ranks: 3000000,
-        word: 4026531840,
-        rank: 1139065,
-    },
-    Row {
-        ranks: 3000000,
-        word: 4278190081,
-        rank: 2823790,
-    },
-    Row {
-        ranks: 3000000,
-        word: 4294967295,
-        rank: 2999999,
-    },
-];
+/// Ranks of which each step draws one.
+#[derive(Drop)]
+struct Drawing;
+
+impl Scripted for Drawing {
+    ghost use Rattle.std.specs.Prelude.{⊤};
+
+    ghost can_act = { ⊤ };
+
+    fn act(&mut self, alloc: Global, step: &mut Step<'_>) -> Result<(), Fail> {
+        let count = step.small();
+        if count < 1 || count > 100000000 {
+            step.refuse();
+            return Ok(());
+        }
+        let ranks = Ranks::new(alloc, count)?;
+        let word = step.small();
+        step.tell_number(u64::from(ranks.rank(word)));
+        Ok(())
+    }
+}
 
 #[test]
 fn a_word_draws_the_rank_in_whose_weight_it_leads(rt: HostRuntime) -> Result<(), Fail> {
-    for row in &ROWS {
-        let ranks = Ranks::new(rt.alloc(), row.ranks)?;
-        assert!(rt; ranks.rank(row.word) == row.rank);
-    }
-    Ok(())
+    run_text(rt.alloc(), &mut Drawing, WORDS)
 }
 
 /// How often each of 1,000 ranks is drawn in 100,000 draws.
@@ -144,9 +84,9 @@ fn is_near(counts: &[u32], rank: usize, wanted: u32) -> bool {
 #[test]
 fn the_first_ranks_have_their_shares_of_draws(rt: HostRuntime) -> Result<(), Fail> {
     let counts = draws(rt.alloc())?;
-    assert!(rt; is_near(&counts, 0, 13359));
-    assert!(rt; is_near(&counts, 1, 6680));
-    assert!(rt; is_near(&counts, 2, 4453));
+    assert!(rt;
+        is_near(&counts, 0, 13359) && is_near(&counts, 1, 6680) && is_near(&counts, 2, 4453)
+    );
     Ok(())
 }
 
@@ -162,15 +102,17 @@ fn numbers_left(alloc: Global, ranks: u32, seed: u32) -> Result<usize, AllocErro
 #[test]
 fn each_number_has_a_rank(rt: HostRuntime) -> Result<(), Fail> {
     for ranks in [1, 2, 3, 5, 10, 997, 1000, 4096] {
-        assert!(rt; numbers_left(rt.alloc(), ranks, 0)? == 0);
-        assert!(rt; numbers_left(rt.alloc(), ranks, 4294967295)? == 0);
+        let left = numbers_left(rt.alloc(), ranks, 0)?;
+        assert!(rt; left == 0 && numbers_left(rt.alloc(), ranks, 4294967295)? == 0);
     }
     Ok(())
 }
 
 #[test]
 fn the_first_rank_has_the_number_of_the_seed(rt: HostRuntime) {
-    assert!(rt; scattered(1000, 7, 0) == 7);
-    assert!(rt; scattered(1000, 4294967295, 0) == 295);
-    assert!(rt; scattered(1000, 7, 1) == 298);
+    assert!(rt;
+        scattered(1000, 7, 0) == 7
+            && scattered(1000, 4294967295, 0) == 295
+            && scattered(1000, 7, 1) == 298
+    );
 }

@@ -1,9 +1,10 @@
 //! The report of a load.
-use super::loads::load_of;
+use crate::tests::asked_loads::served_by;
 use figures::Form;
 use load::Quantiles;
 use serve_load::{Report, Timed};
 use service_lane::{Counter, Counts};
+use std::alloc::Global;
 use std::test::Fail;
 
 /// The numbers of a report in which each row has another one.
@@ -140,18 +141,28 @@ no history was recorded, so nothing was judged beyond each caller's check of the
 const OBJECT: &str =
     "{\"operations\":4500,\"seconds\":2.007,\"operations-a-second\":2242,\"gets\":28,\"hit-ratio\":0.214,\"get-p50-ns\":51,\"get-p99-ns\":52,\"get-p999-ns\":53,\"get-max-ns\":54,\"put-p50-ns\":61,\"put-p99-ns\":62,\"put-p999-ns\":63,\"put-max-ns\":64,\"hits-memory\":1,\"hits-log\":2,\"hits-set\":3,\"misses-absent\":4,\"misses-expired\":5,\"misses-fault\":6,\"misses-damaged\":7,\"puts-stored\":8,\"puts-bytes\":9,\"puts-refused\":10,\"leases\":11,\"fills-stored\":12,\"fills-bytes\":13,\"fills-refused\":14,\"fills-stale\":15,\"pushed-declined\":16,\"pushed-logged\":17,\"pushed-log-full\":18,\"pushed-index-full\":19,\"copy-hits\":35,\"brought-back\":36,\"pushed-copies\":37,\"pages-written\":21,\"pages-lost\":22,\"sets-written\":23,\"sets-forgotten\":24,\"segments-freed\":25,\"moves-readmitted\":26,\"moves-dropped\":27,\"moves-refused\":28,\"upkeep-steps\":29,\"upkeep-in-help\":30,\"removals\":33,\"memory-objects\":31,\"log-records\":32,\"refused\":44,\"wrong-hits\":1}\n";
 
-#[test]
-fn a_report_has_a_line_for_each_number(rt: HostRuntime) -> Result<(), Fail> {
-    let load = load_of(rt.alloc(), &["k", "serve-load"]).ok_or("a load")?;
-    assert!(rt; report().text(rt.alloc(), Form::Lines, &load, &[])?.as_str() == TEXT);
-    Ok(())
+/// Whether a report is told by lines that have this text.
+fn has_lines(alloc: Global, report: &Report, text: &str) -> Result<bool, Fail> {
+    let load = served_by(alloc, "k serve-load")?;
+    let lines = report.text(alloc, Form::Lines, &*load, &[])?;
+    Ok(lines.as_str().contains(text))
 }
 
 #[test]
-fn a_report_has_a_member_for_each_number(rt: HostRuntime) -> Result<(), Fail> {
-    let load = load_of(rt.alloc(), &["k", "serve-load"]).ok_or("a load")?;
-    assert!(rt; report().text(rt.alloc(), Form::Json, &load, &[])?.as_str() == OBJECT);
+fn a_report_has_a_line_and_a_member_for_each_number(rt: HostRuntime) -> Result<(), Fail> {
+    let load = served_by(rt.alloc(), "k serve-load")?;
+    let lines = report().text(rt.alloc(), Form::Lines, &*load, &[])?;
+    let object = report().text(rt.alloc(), Form::Json, &*load, &[])?;
+    assert!(rt; lines.as_str() == TEXT && object.as_str() == OBJECT);
     Ok(())
+}
+
+/// A report of so many hits and misses.
+fn with_ratio(hits: u64, misses: u64) -> Report {
+    let mut counts = Counts::none();
+    counts.add(Counter::LogHits, hits);
+    counts.add(Counter::Absent, misses);
+    report_with(counts)
 }
 
 /// Hits and misses, and the row of their ratio.
@@ -192,18 +203,9 @@ static RATIOS: [Ratio; 5] = [
 
 #[test]
 fn a_ratio_is_rounded_down_to_three_places(rt: HostRuntime) -> Result<(), Fail> {
-    let load = load_of(rt.alloc(), &["k", "serve-load"]).ok_or("a load")?;
     for ratio in &RATIOS {
-        let mut counts = Counts::none();
-        counts.add(Counter::LogHits, ratio.hits);
-        counts.add(Counter::Absent, ratio.misses);
-        let report = report_with(counts);
-        assert!(rt;
-            report
-                .text(rt.alloc(), Form::Lines, &load, &[])?
-                .as_str()
-                .contains(ratio.row)
-        );
+        let report = with_ratio(ratio.hits, ratio.misses);
+        assert!(rt; has_lines(rt.alloc(), &report, ratio.row)?);
     }
     Ok(())
 }

@@ -48,9 +48,11 @@ fn merged_longest(histogram: &mut Histogram, other: &mut Histogram) -> (u64, u64
 #[test]
 fn a_histogram_tells_its_times(rt: HostRuntime) -> Result<(), Fail> {
     let alloc = rt.alloc();
-    assert!(rt; half_of_two(&mut Histogram::new(alloc)?) == 1);
-    assert!(rt; more_than_half_of_two(&mut Histogram::new(alloc)?) == 64);
-    assert!(rt; all_of_one(&mut Histogram::new(alloc)?) == 100);
+    assert!(rt;
+        half_of_two(&mut Histogram::new(alloc)?) == 1
+            && more_than_half_of_two(&mut Histogram::new(alloc)?) == 64
+            && all_of_one(&mut Histogram::new(alloc)?) == 100
+    );
     let merged = merged_longest(&mut Histogram::new(alloc)?, &mut Histogram::new(alloc)?);
     assert!(rt; merged.0 == 2 && merged.1 == 9);
     Ok(())

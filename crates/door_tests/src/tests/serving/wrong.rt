@@ -1,6 +1,6 @@
 //! What a report tells of wrong hits.
-use super::loads::load_of;
 use super::reports::report_with;
+use crate::tests::asked_loads::{served_by, served_of};
 use figures::Form;
 use record_pages::ValueBuffer;
 use serve_load::{Known, ToldHit};
@@ -60,11 +60,11 @@ static ROWS: [Row; 4] = [
 /// Whether a wrong hit is told so, in both forms.
 fn is_told(alloc: Global, row: &Row) -> Result<bool, Fail> {
     let words = ["k", "serve-load", "--value-bytes", "9", "--ttl", row.ttl];
-    let load = load_of(alloc, &words).ok_or("a load")?;
+    let load = served_of(alloc, &words)?;
     let hits = [hit_of(5, row.word)];
     let report = report_with(Counts::none());
-    let lines = report.text(alloc, Form::Lines, &load, &hits)?;
-    let object = report.text(alloc, Form::Json, &load, &hits)?;
+    let lines = report.text(alloc, Form::Lines, &*load, &hits)?;
+    let object = report.text(alloc, Form::Json, &*load, &hits)?;
     Ok(lines.as_str().contains(row.lines) && object.as_str().ends_with(row.member))
 }
 
@@ -78,10 +78,12 @@ fn a_wrong_hit_is_told_with_key_operation_expected_and_found(rt: HostRuntime) ->
 
 #[test]
 fn each_caller_tells_its_own_wrong_hit(rt: HostRuntime) -> Result<(), Fail> {
-    let load = load_of(rt.alloc(), &["k", "serve-load"]).ok_or("a load")?;
+    let load = served_by(rt.alloc(), "k serve-load")?;
     let hits = [hit_of(0, 0), hit_of(63, 0)];
-    let text = report_with(Counts::none()).text(rt.alloc(), Form::Lines, &load, &hits)?;
-    assert!(rt; text.as_str().contains("\nwrong-hit-of-caller-0 key 0000"));
-    assert!(rt; text.as_str().contains("\nwrong-hit-of-caller-63 key 003f"));
+    let text = report_with(Counts::none()).text(rt.alloc(), Form::Lines, &*load, &hits)?;
+    assert!(rt;
+        text.as_str().contains("\nwrong-hit-of-caller-0 key 0000")
+            && text.as_str().contains("\nwrong-hit-of-caller-63 key 003f")
+    );
     Ok(())
 }

@@ -1,14 +1,21 @@
 -- What is kept of calls that are accepted goes on.
-use Rattle.history_text.specs.Text.{text_by}
+use Rattle.std.proofs.Common.{◌∙◌, subst, sym}
+use Rattle.history_text.specs.Text.{Text, text_by}
+use Rattle.judge_run.specs.Streams.{IsGoing, judged_of}
 use Rattle.judge_run.proofs.StreamLaws.{goes_on}
 use Rattle.judge_run.proofs.streaming.go_on.Goals as goal
 
-pub kept_of-requires : goal.kept_of-requires
-kept_of-requires g c = c.requires.1.intervals
+pub forget-requires : goal.forget-requires
+forget-requires g c = c.requires.1.intervals
 
-pub returns-in-Some : goal.returns-in-Some
-returns-in-Some g c = λ scope window least known left progress bound_is last.
-    let judged = c.args.judged in
-    let kept = c.in_ok-text.text in
-    goes_on scope window least known left progress (text_by judged.warm.text.history judged.warm.text.lines.items judged.warm.text.callers) judged.waiting.history judged.waiting.lines.items judged.latest judged.forgotten judged.warm.from_start last
-    (text_by kept.history kept.lines.items kept.callers) judged.bound c.first_start-first.result c.in-Some.forgotten c.counts_of-before.result c.counts_of-after.result c.requires bound_is c.first_start-first.ensures c.in_ok-text.ensures.kept c.in_ok-text.ensures.callers (c.in_ok-text.ensures.as_many last.as_many) c.counts_of-before.ensures c.counts_of-after.ensures c.in-Some.ensures
+pub returns : goal.returns
+returns g c = λ rule known left progress bound_is last.
+    let stream = c.args.stream.now in
+    let kept = c.forget.new.text in
+    let going = goes_on rule.scope rule.window rule.least known left progress (judged_of stream) stream.waiting.history stream.waiting.lines.items stream.latest stream.forgotten c.args.from_start last
+    (text_by kept.history kept.lines.items kept.callers) stream.bound c.first_start-first.result c.in-Some.forgotten c.counts_of-before.result c.counts_of-after.result c.requires bound_is c.first_start-first.ensures c.in-Ok.ensures.kept c.in-Ok.ensures.callers (c.in-Ok.ensures.as_many last.as_many) c.counts_of-before.ensures c.counts_of-after.ensures c.in-Some.ensures in
+    record {
+      going = subst (λ (text : Text). IsGoing rule.scope rule.window rule.least known left progress text stream.waiting.history stream.waiting.lines.items stream.bound stream.latest c.in-Some.forgotten) (λ i. text_by (sym c.replace.ensures.value i) (sym (λ j. (c.replace-2.ensures.value j).items) i) kept.callers) going;
+      no_calls = c.replace.ensures.after ∙ c.new.ensures;
+      no_lines = (λ i. (c.replace-2.ensures.after i).items) ∙ c.new-2.ensures.items;
+    }

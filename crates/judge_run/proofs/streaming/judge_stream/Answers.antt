@@ -1,31 +1,19 @@
--- Piece after piece, the stream goes on.
-use Rattle.std.proofs.Common.{refl}
-use Rattle.history_text.specs.Text.{text_by}
-use Rattle.judge_run.proofs.StreamLaws.{at_on, at_over, going_first, nothing_ahead}
+-- Nothing is held of a stream before it is read.
+use Rattle.std.proofs.Common.{ap, refl}
+use Rattle.history_text.specs.Text.{Text, text_by}
+use Rattle.judge_run.proofs.StreamLaws.{going_first, nothing_ahead}
 use Rattle.judge_run.proofs.streaming.judge_stream.Goals as goal
 
-pub loop-init : goal.loop-init
-loop-init g c =
-    let text = c.new.result in
+pub judge_pieces-requires-clause-ahead : goal.judge_pieces-requires-clause-ahead
+judge_pieces-requires-clause-ahead g c = nothing_ahead c.new-lines.result c.args.scope.reading (g.R.Read.remaining c.args.reader.now) c.new-lines.ensures
+
+pub judge_pieces-requires-clause-held : goal.judge_pieces-requires-clause-held
+judge_pieces-requires-clause-held g c =
+    let kept = c.new.result in
+    let text = c.new-2.result in
+    let waiting = c.new-3.result in
     record {
-      ahead = nothing_ahead c.new-lines.result c.args.scope.reading (g.R.Read.remaining c.args.reader.now) c.new-lines.ensures;
-      going = going_first c.args.scope c.args.window c.args.least (g.R.Read.remaining c.args.reader.now) c.new-lines.result (text_by text.history text.lines.items text.callers) c.new-2.result c.new-3.result.items 0 0 _ c.new-lines.ensures c.new.ensures c.new-2.ensures c.new-3.ensures.items refl refl refl;
+      going = going_first c.args.scope c.args.window c.args.least (g.R.Read.remaining c.args.reader.now) c.new-lines.result (text_by kept.history kept.lines.items text.callers) waiting.history waiting.lines.items 0 0 _ c.new-lines.ensures (λ i. text_by (c.new.ensures.calls i) (c.new.ensures.lines i) (ap (λ (t : Text). t.callers) c.new-2.ensures i)) c.new-3.ensures.calls c.new-3.ensures.lines refl refl refl;
+      no_calls = ap (λ (t : Text). t.calls) c.new-2.ensures;
+      no_lines = ap (λ (t : Text). t.lines) c.new-2.ensures;
     }
-
-pub loop-preserved : goal.loop-preserved
-loop-preserved g c = record {
-  ahead = c.in-Ok-On.ensures.ahead;
-  going = at_on c.in-Ok-On.field-0 c.in-Ok-On.kept _ c.in-Ok-On.field-0-is c.in-Ok-On.ensures.on (g.R.Read.remaining c.args.reader.now) c.loop.invariant.going;
-}
-
-pub judge_next-requires-clause-ahead : goal.judge_next-requires-clause-ahead
-judge_next-requires-clause-ahead g c = c.loop.invariant.ahead
-
-pub judge_next-requires-clause-going : goal.judge_next-requires-clause-going
-judge_next-requires-clause-going g c = (g.R.Read.remaining c.args.reader.now, c.loop.invariant.going)
-
-pub returns-in-Ok-Over-clause-text : goal.returns-in-Ok-Over-clause-text
-returns-in-Ok-Over-clause-text g c = at_over c.in-Ok-Over.field-0 c.in-Ok-Over.judged _ c.in-Ok-Over.field-0-is c.in-Ok-Over.ensures.streamed (g.R.Read.remaining c.args.reader.now) c.loop.invariant.going
-
-pub returns-in-Err-clause-fault : goal.returns-in-Err-clause-fault
-returns-in-Err-clause-fault g c = c.in-Err.ensures.fault (g.R.Read.remaining c.args.reader.now) c.loop.invariant.going

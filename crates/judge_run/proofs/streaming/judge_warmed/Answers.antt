@@ -1,18 +1,19 @@
 -- What comes of calls that were judged.
 use Rattle.std.proofs.Common.{◌≡◌, ap, Bool, not, subst, true}
-use Rattle.history_text.specs.Text.{text_by}
-use Rattle.judge_run.specs.Streams.{IsJudgedLast}
-use Rattle.judge_run.proofs.streaming.judge_warmed.Goals.{in-Ok, in-Err}
+use Rattle.judge_run.specs.Streams.{IsPieceJudged}
+use Rattle.judge_run.proofs.streaming.judge_warmed.Goals.{in-Ok-go_on, in-Err}
 use Rattle.judge_run.proofs.streaming.judge_warmed.Goals as goal
 
-pub returns-then-is_accepted-clause-on : goal.returns-then-is_accepted-clause-on
-returns-then-is_accepted-clause-on g c =
-    let judged = c.args.judged in
-    let text = judged.warm.text in
+pub returns-then-is_accepted-clause-judged : goal.returns-then-is_accepted-clause-judged
+returns-then-is_accepted-clause-judged g c =
     let unended : not c.args.over ≡ true = ap not c.if-not-over.true in
     elim c.match-go_on.branch [
-      | in-Ok w ↦ rw w.result-is (λ scope window least known left progress bound_is last.
-          w.in-Ok.ensures scope window least known left progress bound_is
-          (subst (λ (more : Bool). IsJudgedLast scope window least more known left progress (text_by text.history text.lines.items text.callers) judged.waiting.history judged.waiting.lines.items judged.latest judged.forgotten judged.warm.from_start) unended last))
+      | in-Ok-go_on w ↦ rw w.result-is (λ rule known left progress bound_is last ended counted.
+          w.in-Ok-go_on.ensures rule known left progress bound_is
+          (subst (λ (more : Bool). IsPieceJudged rule more known left progress c.args.from_start c.args.stream.now) unended last))
       | in-Err w ↦ rw w.result-is tt
     ]
+
+pub returns-in-Ok-end_with-clause-judged : goal.returns-in-Ok-end_with-clause-judged
+returns-in-Ok-end_with-clause-judged g c = λ rule known left progress bound_is last ended counted.
+    c.in-Ok-end_with.ensures.streamed rule known left progress last ended counted

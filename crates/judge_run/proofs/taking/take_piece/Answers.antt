@@ -1,5 +1,5 @@
--- A piece is read, and its calls stand after those that are held.
-use Rattle.std.proofs.Common.{◌≡◌, ◌<◌, [], List, ℕ, ap₂, Option, IsSomeAnd, arith, length, slice_get, refl, subst, sym}
+-- A piece is read, and its calls stand after the hits that waited.
+use Rattle.std.proofs.Common.{◌≡◌, ◌<◌, [], List, ℕ, ap, ap₂, Option, IsSomeAnd, arith, length, slice_get, refl, subst, sym}
 use Rattle.std.proofs.lemmas.Option.{slice_get_read, slice_get_within}
 use Rattle.trace_file.specs.declared.call.Call.{Call}
 use Rattle.certificate_checker.proofs.public_laws.Lookups.{some_and}
@@ -10,7 +10,7 @@ use Rattle.history_text.specs.Pieces.{HasBefore, IsFaultFrom, Progress, TakesPie
 use Rattle.history_text.specs.Text.{Text, text_by}
 use Rattle.judge_run.specs.declared.scope.Scope.{Scope}
 use Rattle.judge_run.specs.Scopes.{text_scoped}
-use Rattle.judge_run.specs.Streams.{IsFirstOf, IsStreamFault, piece_size}
+use Rattle.judge_run.specs.Streams.{IsFirstOf, IsStreamFault, judged_of, piece_size}
 use Rattle.judge_run.proofs.TakingLaws.{as_many, before, before_fault, early_at, enough_judged, few_judged, first_told, full_judged, below, taken}
 use Rattle.judge_run.proofs.taking.take_piece.Goals as goal
 
@@ -39,54 +39,67 @@ pub index-requires : goal.index-requires
 index-requires g c =
     let left = left_of c.args.lines.now (g.R.Read.remaining c.args.reader.now) in
     let rest = left_of c.take_calls.new.self (g.R.Read.remaining c.take_calls.new.reader) in
-    let callers = c.args.stream.text.callers in
+    let stream = c.args.stream.now in
     let piece = text_by c.take_calls.new.text.history c.take_calls.new.text.lines.items c.take_calls.new.text.callers in
-    let judged = text_by c.in-Ok-scoped.piece.history c.in-Ok-scoped.piece.lines.items c.in-Ok-scoped.piece.callers in
-    let takes = from_none left rest c.args.lines.now c.take_calls.new.self c.new.result c.new-2.result.items callers piece c.new.ensures c.new-2.ensures.items c.in-Ok.ensures.piece in
-    let there : c.in-Some.late < length c.in-Ok-scoped.piece.lines.items = within c.args.scope left rest c.args.lines.now c.take_calls.new.self callers piece judged takes c.in-Ok-scoped.ensures c.in-Some.late c.args.stream.bound c.in-Some.ensures.some.0 in
-    omega (arith, there, c.in-Ok-scoped.piece.lines.ok.0)
+    let judged = text_by c.widen.new.history piece.lines piece.callers in
+    let takes = from_none left rest c.args.lines.now c.take_calls.new.self stream.text.history stream.text.lines.items stream.text.callers piece c.requires.held.1.no_calls c.requires.held.1.no_lines c.in-Ok.ensures.piece in
+    let is : judged ≡ text_scoped c.args.rule.scope piece = ap (λ (cs : List Call). text_by cs piece.lines piece.callers) c.in-Ok-widen.ensures in
+    let there : c.in-Some.late < length piece.lines = within c.args.rule.scope left rest c.args.lines.now c.take_calls.new.self stream.text.callers piece judged takes is c.in-Some.late stream.bound c.in-Some.ensures.some.0 in
+    omega (arith, there, c.take_calls.new.text.lines.ok.0)
 
 pub returns-in-Err-Bad-clause-fault : goal.returns-in-Err-Bad-clause-fault
-returns-in-Err-Bad-clause-fault g c = λ window known going.
+returns-in-Err-Bad-clause-fault g c = λ known held.
+    let scope = c.args.rule.scope in
+    let window = c.args.rule.window in
+    let least = c.args.rule.least in
     let left = left_of c.args.lines.now (g.R.Read.remaining c.args.reader.now) in
-    let stream = c.args.stream in
-    let kept = text_by stream.text.history stream.text.lines.items stream.text.callers in
+    let stream = c.args.stream.now in
+    let kept = text_by stream.kept.history stream.kept.lines.items stream.text.callers in
     let piece = text_by c.take_calls.new.text.history c.take_calls.new.text.lines.items c.take_calls.new.text.callers in
-    let held = text_by c.new.result c.new-2.result.items kept.callers in
+    let none = judged_of stream in
     let bad = c.in-Err-Bad.bad in
-    let fault = subst (λ (f : ReadTextFault). IsFaultFrom left c.args.lines.now held f) c.in-Err-Bad.field-0-is c.in-Err-Bad.ensures.fault in
-    let stop = subst (λ (f : ReadTextFault). HasBefore left c.args.lines.now held piece f) c.in-Err-Bad.field-0-is c.in-Err-Bad.ensures.stop in
-    first_told c.args.scope window c.args.least known left c.args.lines.now kept stream.waiting.history stream.waiting.lines.items piece stream.bound stream.latest stream.forgotten bad c.first_fault.result going
-    (fault_from_none left c.args.lines.now c.new.result c.new-2.result.items kept.callers (Bad bad) c.new.ensures c.new-2.ensures.items fault)
-    (stop_from_none left c.args.lines.now c.new.result c.new-2.result.items kept.callers piece (Bad bad) c.new.ensures c.new-2.ensures.items stop)
-    (few_judged c.args.scope piece (text_scoped c.args.scope piece) c.new.result c.most_of-most.result (piece_size c.args.least stream.text.history stream.waiting.history) refl c.new.ensures (below (length piece.calls) _ (c.in-Err-Bad.ensures.unfilled bad c.in-Err-Bad.field-0-is)) c.most_of-most.ensures.size)
-    (subst (λ (b : BadLine). IsFirstOf (text_scoped c.args.scope piece) stream.bound b c.first_fault.result) c.in-Err-Bad.bad-is c.first_fault.ensures)
+    let fault = subst (λ (f : ReadTextFault). IsFaultFrom left c.args.lines.now none f) c.in-Err-Bad.field-0-is c.in-Err-Bad.ensures.fault in
+    let stop = subst (λ (f : ReadTextFault). HasBefore left c.args.lines.now none piece f) c.in-Err-Bad.field-0-is c.in-Err-Bad.ensures.stop in
+    first_told scope window least known left c.args.lines.now kept stream.waiting.history stream.waiting.lines.items piece stream.bound stream.latest stream.forgotten bad c.first_fault.result held.going
+    (fault_from_none left c.args.lines.now stream.text.history stream.text.lines.items kept.callers (Bad bad) c.requires.held.1.no_calls c.requires.held.1.no_lines fault)
+    (stop_from_none left c.args.lines.now stream.text.history stream.text.lines.items kept.callers piece (Bad bad) c.requires.held.1.no_calls c.requires.held.1.no_lines stop)
+    (few_judged scope piece (text_scoped scope piece) stream.text.history c.most_of-most.result (piece_size least stream.kept.history stream.waiting.history) refl c.requires.held.1.no_calls (below (length piece.calls) _ (c.in-Err-Bad.ensures.unfilled bad c.in-Err-Bad.field-0-is)) c.most_of-most.ensures.size)
+    (subst (λ (b : BadLine). IsFirstOf (text_scoped scope piece) stream.bound b c.first_fault.result) c.in-Err-Bad.bad-is c.first_fault.ensures)
 
 pub returns-in-Some-clause-fault : goal.returns-in-Some-clause-fault
-returns-in-Some-clause-fault g c = λ window known going.
+returns-in-Some-clause-fault g c = λ known held.
+    let scope = c.args.rule.scope in
+    let window = c.args.rule.window in
+    let least = c.args.rule.least in
     let left = left_of c.args.lines.now (g.R.Read.remaining c.args.reader.now) in
     let rest = left_of c.take_calls.new.self (g.R.Read.remaining c.take_calls.new.reader) in
-    let stream = c.args.stream in
-    let kept = text_by stream.text.history stream.text.lines.items stream.text.callers in
+    let stream = c.args.stream.now in
+    let kept = text_by stream.kept.history stream.kept.lines.items stream.text.callers in
     let piece = text_by c.take_calls.new.text.history c.take_calls.new.text.lines.items c.take_calls.new.text.callers in
-    let judged = text_by c.in-Ok-scoped.piece.history c.in-Ok-scoped.piece.lines.items c.in-Ok-scoped.piece.callers in
-    let takes = from_none left rest c.args.lines.now c.take_calls.new.self c.new.result c.new-2.result.items kept.callers piece c.new.ensures c.new-2.ensures.items c.in-Ok.ensures.piece in
-    let there = within c.args.scope left rest c.args.lines.now c.take_calls.new.self kept.callers piece judged takes c.in-Ok-scoped.ensures c.in-Some.late stream.bound c.in-Some.ensures.some.0 in
-    subst (λ fault. IsStreamFault c.args.scope window c.args.least known fault) (sym c.before_window.ensures) (before_fault c.args.scope window c.args.least known c.index.result.now
-    (before c.args.scope window c.args.least known left rest c.args.lines.now c.take_calls.new.self kept stream.waiting.history stream.waiting.lines.items piece judged stream.bound stream.latest stream.forgotten going takes c.in-Ok-scoped.ensures
-    c.index.result.now (few_judged c.args.scope piece judged c.new.result c.most_of-most.result (piece_size c.args.least stream.text.history stream.waiting.history) c.in-Ok-scoped.ensures c.new.ensures c.in-Ok.ensures.few c.most_of-most.ensures.size) (early_at judged stream.bound c.in-Some.late c.index.result.now c.in-Some.ensures.some.0 c.in-Some.ensures.some.1 (slice_get_read judged.lines (length judged.lines) c.in-Some.late c.index.result.now refl there c.index.ensures))))
+    let judged = text_by c.widen.new.history piece.lines piece.callers in
+    let takes = from_none left rest c.args.lines.now c.take_calls.new.self stream.text.history stream.text.lines.items kept.callers piece c.requires.held.1.no_calls c.requires.held.1.no_lines c.in-Ok.ensures.piece in
+    let is : judged ≡ text_scoped scope piece = ap (λ (cs : List Call). text_by cs piece.lines piece.callers) c.in-Ok-widen.ensures in
+    let there = within scope left rest c.args.lines.now c.take_calls.new.self kept.callers piece judged takes is c.in-Some.late stream.bound c.in-Some.ensures.some.0 in
+    subst (λ fault. IsStreamFault scope window least known fault) (sym c.before_window.ensures) (before_fault scope window least known c.index.result.now
+    (before scope window least known left rest c.args.lines.now c.take_calls.new.self kept stream.waiting.history stream.waiting.lines.items piece judged stream.bound stream.latest stream.forgotten held.going takes is
+    c.index.result.now (few_judged scope piece judged stream.text.history c.most_of-most.result (piece_size least stream.kept.history stream.waiting.history) is c.requires.held.1.no_calls c.in-Ok.ensures.few c.most_of-most.ensures.size) (early_at judged stream.bound c.in-Some.late c.index.result.now c.in-Some.ensures.some.0 c.in-Some.ensures.some.1 (slice_get_read judged.lines (length judged.lines) c.in-Some.late c.index.result.now refl there c.index.ensures))))
 
-pub returns-clause-taken : goal.returns-clause-taken
-returns-clause-taken g c = λ window known going.
+pub returns-in-Ok-put_before-clause-taken : goal.returns-in-Ok-put_before-clause-taken
+returns-in-Ok-put_before-clause-taken g c = λ known held.
+    let scope = c.args.rule.scope in
+    let window = c.args.rule.window in
+    let least = c.args.rule.least in
     let left = left_of c.args.lines.now (g.R.Read.remaining c.args.reader.now) in
     let rest = left_of c.take_calls.new.self (g.R.Read.remaining c.take_calls.new.reader) in
-    let stream = c.args.stream in
-    let kept = text_by stream.text.history stream.text.lines.items stream.text.callers in
+    let stream = c.args.stream.now in
+    let kept = text_by stream.kept.history stream.kept.lines.items stream.text.callers in
     let piece = text_by c.take_calls.new.text.history c.take_calls.new.text.lines.items c.take_calls.new.text.callers in
-    let judged = text_by c.in-Ok-scoped.piece.history c.in-Ok-scoped.piece.lines.items c.in-Ok-scoped.piece.callers in
-    let takes = from_none left rest c.args.lines.now c.take_calls.new.self c.new.result c.new-2.result.items kept.callers piece c.new.ensures c.new-2.ensures.items c.in-Ok.ensures.piece in
-    taken c.args.scope window c.args.least known left rest c.args.lines.now c.take_calls.new.self kept stream.waiting.history stream.waiting.lines.items piece judged stream.bound stream.latest stream.forgotten going takes c.in-Ok-scoped.ensures
-    (text_by c.in-Ok-joined.text.history c.in-Ok-joined.text.lines.items c.in-Ok-joined.text.callers) c.last_end-latest.result c.in-Ok.over
-    (λ is. enough_judged c.args.scope piece judged c.new.result c.args.least c.most_of-most.result c.in-Ok-scoped.ensures c.new.ensures (c.in-Ok.ensures.full is) c.most_of-most.ensures.least)
-    (λ is. full_judged c.args.scope piece judged c.new.result c.most_of-most.result (piece_size c.args.least stream.text.history stream.waiting.history) c.in-Ok-scoped.ensures c.new.ensures (c.in-Ok.ensures.full is) c.most_of-most.ensures.size)
-    c.in_default-first_before.ensures.none c.last_end-latest.ensures c.in-Ok-joined.ensures
+    let judged = text_by c.widen.new.history piece.lines piece.callers in
+    let takes = from_none left rest c.args.lines.now c.take_calls.new.self stream.text.history stream.text.lines.items kept.callers piece c.requires.held.1.no_calls c.requires.held.1.no_lines c.in-Ok.ensures.piece in
+    let is : judged ≡ text_scoped scope piece = ap (λ (cs : List Call). text_by cs piece.lines piece.callers) c.in-Ok-widen.ensures in
+    let text = c.put_before.new.text in
+    taken scope window least known left rest c.args.lines.now c.take_calls.new.self kept stream.waiting.history stream.waiting.lines.items piece judged stream.bound stream.latest stream.forgotten held.going takes is
+    (text_by text.history text.lines.items text.callers) c.last_end-stream.result c.in-Ok.over
+    (λ is_on. enough_judged scope piece judged stream.text.history least c.most_of-most.result is c.requires.held.1.no_calls (c.in-Ok.ensures.full is_on) c.most_of-most.ensures.least)
+    (λ is_on. full_judged scope piece judged stream.text.history c.most_of-most.result (piece_size least stream.kept.history stream.waiting.history) is c.requires.held.1.no_calls (c.in-Ok.ensures.full is_on) c.most_of-most.ensures.size)
+    c.in_default-first_before.ensures.none c.last_end-stream.ensures c.in-Ok-put_before.ensures

@@ -1,6 +1,5 @@
 //! Files and standard input that are read, and files that are written.
 use crate::tests::cases::{parted, push_line};
-use crate::tests::made::is;
 use history_text::Share;
 use judge_run::{
     CheckRequest, Detail, JudgeRequest, Scope, ShowRequest, check_with, judge_with, run_check,
@@ -12,7 +11,7 @@ use std::mem::replace;
 use std::random::RandomSource;
 use std::rt::Files;
 use std::test::Fail;
-use test_devices::{Scripted, Step, run_text};
+use test_devices::{Scripted, Step, is, run_text};
 use trace_file::FileName;
 
 /// A trace of two puts, of `k` and of `j`.
@@ -22,6 +21,13 @@ const TRACE: &[u8] =
 /// A trace whose certificate has the hit of `k` before its put.
 const TURNED: &[u8] =
     b"KGTRACE1\0\0\0\x02\x01\0\0\0\0\0\0\0\0\0\x01\0\0\0\0\0\0\0\x04\x01k\0\x01v\x03\0\x01\0\0\0\0\0\0\0\x02\0\0\0\0\0\0\0\x06\x01k\0\x01v\0\0\0\x01\0\0\0\0";
+
+/// A page beside the verdict.
+const PAGED: Detail = Detail {
+    explain: false,
+    all: false,
+    page: true,
+};
 
 /// What is asked of the next judging: no files that are written, further files that are judged, and what of the calls is judged.
 #[derive(Drop)]
@@ -170,6 +176,14 @@ fn handle<R: AllocGlobal + Files>(
     if is(word, b"no-picture") {
         return Ok(fs::open(rt, "judged.svg").is_err());
     }
+    if is(word, b"no-page") {
+        return Ok(fs::open(rt, "judged.html").is_err());
+    }
+    if is(word, b"page") {
+        let page: Vec<u8> = fs::read(rt, "judged.html")?;
+        fs::remove_file(rt, "judged.html")?;
+        return Ok(page.starts_with(b"<!DOCTYPE html>\n") && page.ends_with(b"</html>\n"));
+    }
     Ok(is(word, b"picture") && is_drawn(rt)?)
 }
 
@@ -204,14 +218,16 @@ pub(super) fn judge_of(
     let picture = written(alloc, bare, "judged.svg")?;
     let trace = written(alloc, bare, "judged.trace")?;
     let junit = written(alloc, bare, "judged.xml")?;
+    let html = written(alloc, bare, "judged.html")?;
     let request = JudgeRequest {
         others: replace(&mut asked.others, Vec::new(alloc)),
         file,
-        detail: Detail::NONE,
+        detail: PAGED,
         json: asked.json,
         picture,
         trace,
         junit,
+        html,
         at_least: asked.at_least,
         scope: asked.scope,
     };
@@ -275,11 +291,13 @@ check absent 3
 check . 2
 # an accepted history is written as a trace, and no picture is drawn
 line a 1 4 put k v; line b 5 6 hit k v; line a 7 8 put j w; write judged.txt
-judge judged.txt 0; check judged.trace 0; no-picture
+judge judged.txt 0; check judged.trace 0; no-picture; page
 # a rejected one is drawn, and the trace stays
 line a 1 4 remove k; line b 5 6 hit k v; write judged.txt
-judge judged.txt 1; picture
+judge judged.txt 1; picture; page
 show judged.trace k 0; show judged.trace j 0
+# a text with a bad line has no page
+line a 1 4 get k; write judged.txt; judge judged.txt 2; no-page
 # a word that writes no key
 show judged.trace %4 2
 # a rejected trace is drawn
@@ -310,7 +328,7 @@ line a 0 10 put k v; line b 20 30 put k w; line c 35 40 hit k v; skew 3; judge -
 # a key that is not asked for
 line a 1 4 put k v; keys 0; judge - 0
 line a 1 4 put k v; keys 1; judge - 0
-remove judged.txt; remove judged.trace; remove judged.xml
+remove judged.txt; remove judged.trace; remove judged.xml; remove judged.html
 ^bad trace ReadFault at 0
 accepted 3 calls
 accepted 3 calls
@@ -318,6 +336,7 @@ rejected hit key k lines 2
 c0 1 4 put k v
 c1 5 6 hit k v
 c0 7 8 put j w
+bad line 1: the fourth word must be put, hit, miss or remove
 rejected WrongHit place 0
 accepted 1 calls
 rejected hit key k lines 1
@@ -341,6 +360,8 @@ accepted 0 calls
 absent: No such file or directory (os error 2)
 check the name of the file and its permissions
 .: at offset 0: a read failed: check that this is a readable file, and try again
+judged.txt: line 1 is not a call, so nothing was judged: correct it and judge again
+if this is a trace, use kangaroo check
 --key: bad percent-encoding in the key: % must be followed by two hexadecimal digits
 standard input: warning: the input has no calls
 standard input: at offset 0: the input ends before the trace does: write or copy the whole trace again

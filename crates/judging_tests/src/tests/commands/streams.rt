@@ -51,6 +51,7 @@ fn fault_of_text<R: Read, W: Write>(
     let everything = Detail {
         explain: true,
         all: true,
+        page: false,
     };
     judged(
         alloc,
@@ -118,8 +119,10 @@ fn status_unflushed<R: AllocGlobal + Files>(rt: &R) -> Result<u8, AllocError> {
 /// Neither a read nor a write that failed is tried again, and no flush that failed is passed over.
 #[test]
 fn streams_that_fail_are_told(rt: HostRuntime) {
-    assert!(rt; is_unread_text_told(rt.alloc()));
-    assert!(rt; is_unwritten_verdict_told(rt.alloc()));
-    assert!(rt; is_unread_trace_bad(rt.alloc()));
-    assert!(rt; status_unflushed(&rt) == Ok(3));
+    assert!(rt;
+        is_unread_text_told(rt.alloc())
+            && is_unwritten_verdict_told(rt.alloc())
+            && is_unread_trace_bad(rt.alloc())
+            && status_unflushed(&rt) == Ok(3)
+    );
 }

@@ -42,22 +42,26 @@ fn the_nearest_of_a_thousand_are_shown(rt: HostRuntime) -> Result<(), Fail> {
         .iter()
         .filter(|byte| **byte == b'\n')
         .count();
-    assert!(rt; lines == 25);
-    assert!(rt; text.as_str().contains("\n  489  "));
-    assert!(rt; text.as_str().contains("\n* 500  "));
-    assert!(rt; text.as_str().contains("\n  511  "));
-    assert!(rt; !text.as_str().contains("\n  487  "));
-    assert!(rt; !text.as_str().contains("\n  513  "));
-    assert!(rt; text.as_bytes().iter().all(|byte| is_shown(*byte)));
+    assert!(rt;
+        lines == 25
+            && text.as_str().contains("\n  489  ")
+            && text.as_str().contains("\n* 500  ")
+            && text.as_str().contains("\n  511  ")
+            && !text.as_str().contains("\n  487  ")
+            && !text.as_str().contains("\n  513  ")
+            && text.as_bytes().iter().all(|byte| is_shown(*byte))
+    );
     Ok(())
 }
 
 #[test]
 fn a_picture_has_the_same_calls(rt: HostRuntime) -> Result<(), Fail> {
     let text = told_of_one(rt.alloc(), What::Picture)?;
-    assert!(rt; text.as_str().contains("<title>position 489: "));
-    assert!(rt; text.as_str().contains("<title>position 511: "));
-    assert!(rt; !text.as_str().contains("<title>position 487: "));
-    assert!(rt; !text.as_str().contains("<title>position 513: "));
+    assert!(rt;
+        text.as_str().contains("<title>position 489: ")
+            && text.as_str().contains("<title>position 511: ")
+            && !text.as_str().contains("<title>position 487: ")
+            && !text.as_str().contains("<title>position 513: ")
+    );
     Ok(())
 }

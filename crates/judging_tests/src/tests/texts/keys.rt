@@ -30,9 +30,11 @@ fn words_write_keys(rt: HostRuntime) -> Result<(), Fail> {
 
 #[test]
 fn bytes_have_words(rt: HostRuntime) -> Result<(), Fail> {
-    assert!(rt; word(rt.alloc(), b"")?.as_str() == "-");
-    assert!(rt; word(rt.alloc(), b"-")?.as_str() == "%2D");
-    assert!(rt; word(rt.alloc(), b"\x00 !~%\x7f\xff")?.as_str() == "%00%20!~%25%7F%FF");
+    assert!(rt;
+        word(rt.alloc(), b"")?.as_str() == "-"
+            && word(rt.alloc(), b"-")?.as_str() == "%2D"
+            && word(rt.alloc(), b"\x00 !~%\x7f\xff")?.as_str() == "%00%20!~%25%7F%FF"
+    );
     Ok(())
 }
 
@@ -73,15 +75,18 @@ static LATE: &[u8] = b"65535 0 9 miss k; 65535 9223372036854775808 9 miss k";
 fn a_late_call_has_no_text(rt: HostRuntime) -> Result<(), Fail> {
     let last = history_of(rt.alloc(), LAST)?;
     let mut written = Vec::new(rt.alloc());
-    assert!(rt; write_text(rt.alloc(), &last, None, &mut written).is_ok());
     assert!(rt;
-        written.as_slice() == b"c65535 0 9 miss k\nc65535 9223372036854775807 9 miss k\n".as_slice()
+        write_text(rt.alloc(), &last, None, &mut written).is_ok()
+            && written.as_slice()
+                == b"c65535 0 9 miss k\nc65535 9223372036854775807 9 miss k\n".as_slice()
     );
     let late = history_of(rt.alloc(), LATE)?;
     let mut before = Vec::new(rt.alloc());
     let answer = write_text(rt.alloc(), &late, None, &mut before);
-    assert!(rt; answer == Err(WriteTextFault::TooLate { position: 1 }));
-    assert!(rt; before.as_slice() == b"c65535 0 9 miss k\n".as_slice());
+    assert!(rt;
+        answer == Err(WriteTextFault::TooLate { position: 1 })
+            && before.as_slice() == b"c65535 0 9 miss k\n".as_slice()
+    );
     let other = write_text(rt.alloc(), &late, Some(b"j".as_slice()), &mut before);
     assert!(rt; other.is_ok());
     Ok(())

@@ -120,8 +120,7 @@ fn fails_so(alloc: Global, most: usize) -> Result<bool, AllocError> {
 
 #[test]
 fn a_failed_read_is_told(rt: HostRuntime) -> Result<(), Fail> {
-    assert!(rt; fails_so(rt.alloc(), 1)?);
-    assert!(rt; fails_so(rt.alloc(), 1000)?);
+    assert!(rt; fails_so(rt.alloc(), 1)? && fails_so(rt.alloc(), 1000)?);
     Ok(())
 }
 
@@ -138,7 +137,6 @@ fn some_calls_are_kept(rt: HostRuntime) -> Result<(), Fail> {
     let mut bytes = TEXT;
     let mut text = no_text(rt.alloc())?;
     let came = by_pieces(rt.alloc(), &mut text, &mut bytes, 1000);
-    assert!(rt; came.is_ok());
-    assert!(rt; keeps_some(rt.alloc(), &mut text));
+    assert!(rt; came.is_ok() && keeps_some(rt.alloc(), &mut text));
     Ok(())
 }

@@ -180,8 +180,7 @@ fn each_key_is_in_one_share(rt: HostRuntime) {
         assert!(rt; shares_with(key.as_slice()) == 1);
         assert!(rt; Share::ALL.has(key.as_slice()));
     }
-    assert!(rt; Share::new(7, 7).is_none());
-    assert!(rt; Share::new(0, 0).is_none());
+    assert!(rt; Share::new(7, 7).is_none() && Share::new(0, 0).is_none());
 }
 
 /// Two calls on each of two keys.

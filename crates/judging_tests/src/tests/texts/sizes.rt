@@ -27,12 +27,12 @@ fill %20 255; came 1 1 0 1; line; line; line a 1 2 miss k; came 2 1 0 1 3
 fill x 2048; came 1 1 0 1; line; line; line a 1 2 miss k; came 2 1 0 1 3
 ^a 1 2 put k ^@
 fill x 2049; came bad; line; line; line a 1 2 miss k; came bad
-^a 1 2 put k ^bad line 1: the value must have at most 2048 bytes after percent-decoding
+^a 1 2 put k ^bad line 1: the value must have at most 2048 bytes after percent-decoding: record a hash of a longer one
 @
 fill %2D 2048; came 1 1 0 1; line; line; line a 1 2 miss k; came 2 1 0 1 3
 ^a 1 2 hit k ^@
 fill %2D 2049; came bad; line; line; line a 1 2 miss k; came bad
-^a 1 2 hit k ^bad line 1: the value must have at most 2048 bytes after percent-decoding
+^a 1 2 hit k ^bad line 1: the value must have at most 2048 bytes after percent-decoding: record a hash of a longer one
 ";
 
 #[test]

@@ -95,8 +95,7 @@ fn is_bad(bad: Option<BadLine>, number: u64, cause: LineCause) -> bool {
 fn a_line_without_end_is_bad_before_more_is_read(rt: HostRuntime) {
     let mut reader = Endless { given: 0 };
     let bad = bad_line_of(rt.alloc(), &mut reader);
-    assert!(rt; is_bad(bad, 1, LineCause::TooLong));
-    assert!(rt; reader.given == 12288);
+    assert!(rt; is_bad(bad, 1, LineCause::TooLong) && reader.given == 12288);
 }
 
 /// Whether three calls are read of a reader, with their lines.
@@ -127,23 +126,20 @@ fn slow_reader(rest: &[u8], fails: bool) -> Slow<'_> {
 #[test]
 fn bytes_come_one_at_a_time(rt: HostRuntime) {
     let mut reader = slow_reader(TEXT, false);
-    assert!(rt; is_whole(rt.alloc(), &mut reader));
-    assert!(rt; reader.calls_behind == 1);
+    assert!(rt; is_whole(rt.alloc(), &mut reader) && reader.calls_behind == 1);
 }
 
 #[test]
 fn a_failed_read_is_not_tried_again(rt: HostRuntime) {
     let mut reader = slow_reader(TEXT, true);
-    assert!(rt; is_unread(rt.alloc(), &mut reader));
-    assert!(rt; reader.calls_behind == 1);
+    assert!(rt; is_unread(rt.alloc(), &mut reader) && reader.calls_behind == 1);
 }
 
 #[test]
 fn a_bad_line_is_told_before_a_failed_read(rt: HostRuntime) {
     let mut reader = slow_reader(b"x 1 2 put k v\nx\nx 1", true);
     let bad = bad_line_of(rt.alloc(), &mut reader);
-    assert!(rt; is_bad(bad, 2, LineCause::NotWords));
-    assert!(rt; reader.calls_behind == 0);
+    assert!(rt; is_bad(bad, 2, LineCause::NotWords) && reader.calls_behind == 0);
 }
 
 #[test]

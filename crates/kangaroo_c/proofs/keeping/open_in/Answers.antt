@@ -8,7 +8,7 @@ pub returns-in-Ok : goal.returns-in-Ok
 returns-in-Ok c =
     let a = c.args in
     let lent = c.new-device.ensures ∙ c.into_lent.ensures in
-    opened_in a.shape.now a.seed.now a.number a.pages.pages c.in-Ok.lane a.place.now.lane c.put_in.result c.put_in.new.place.lane c.requires
+    opened_in a.shape.now a.seed.now a.number a.pages.pages c.in-Ok.lane c.of.result a.place.now.lane c.put_in.result c.put_in.new.place.lane c.requires
     (subst (λ (p : List (List ℕ)). CanOpen a.shape.now (length p)) lent c.in-Ok.ensures.can)
     (subst (λ (p : List (List ℕ)). Opens a.shape.now a.seed.now a.number p c.in-Ok.lane) lent c.in-Ok.ensures.opened)
-    c.put_in.ensures
+    c.of.ensures.home c.put_in.ensures

@@ -5,7 +5,7 @@ use Rattle.kangaroo_c.specs.Telling.{page_laws}
 use Rattle.kangaroo_c.proofs.lanes.kl_fill.Goals as goal
 
 pub returns-clause-filled : goal.returns-clause-filled
-returns-clause-filled c =
+returns-clause-filled c = λ here.
     let a = c.args in
     let said = c.fill-status.ensures in
     let whole : FillsOrNot page_laws a.writes a.key.now a.value.now a.expires c.deref_mut.result.now.lane c.fill-status.result c.fill-status.new.self =

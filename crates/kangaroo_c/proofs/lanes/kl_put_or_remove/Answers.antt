@@ -5,7 +5,7 @@ use Rattle.kangaroo_c.specs.Telling.{page_laws}
 use Rattle.kangaroo_c.proofs.lanes.kl_put_or_remove.Goals as goal
 
 pub returns-clause-put : goal.returns-clause-put
-returns-clause-put c =
+returns-clause-put c = λ here.
     let a = c.args in
     let said = c.put_or_remove-status.ensures in
     let whole : PutsOrRemoves page_laws a.key.now a.value.now a.expires c.deref_mut.result.now.lane c.put_or_remove-status.result c.put_or_remove-status.new.self =

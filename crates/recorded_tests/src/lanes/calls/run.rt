@@ -51,7 +51,7 @@ pub fn play(alloc: Global, text: &[u8]) -> Result<(), Fail> {
 // The lane of a number and a configuration, opened once more if memory was refused.
 fn opened(alloc: Global, refused: u32, step: &mut Step<'_>) -> Result<Box<Lane>, Fail> {
     let number = step.small();
-    let config = config_of(step);
+    let config = step.config();
     if number >= config.lanes {
         return Err("a lane that is not there".into());
     }

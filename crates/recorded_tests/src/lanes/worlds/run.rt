@@ -1,5 +1,5 @@
 //! The events of a world, by their words, and what is played of them.
-use super::super::super::texts::{caller_of, is, tell_act};
+use super::super::super::texts::{caller_of, tell_act};
 use certificate_checker::{Verdict, check};
 use file_device::FileDevice;
 use history_recorder::{Event, Operation, Played, Replies, Reply, World, play};
@@ -14,7 +14,7 @@ use std::fs;
 use std::fs::File;
 use std::rt::Files;
 use std::test::Fail;
-use test_devices::{Scripted, Spelled, Step, run_text};
+use test_devices::{Scripted, Spelled, Step, is, run_text};
 use trace_file::{Certificate, History};
 
 // How many callers a world has.

@@ -1,5 +1,5 @@
 -- What is asked of a new lane is asked of what its lock keeps.
 use Rattle.service_cache.proofs.opening.add_lane.Goals as goal
 
-pub guarded_over-requires : goal.guarded_over-requires
-guarded_over-requires g c = assumption
+pub seated_over-requires : goal.seated_over-requires
+seated_over-requires g c = assumption

@@ -33,22 +33,20 @@ static ONE_HIT: [u8; 40] = [
 #[test]
 fn a_trace_is_judged(rt: HostRuntime) {
     let alloc = rt.alloc();
-    assert!(rt; is_judged(alloc, &ONE_PUT, Status::Done, b"accepted 1 calls"));
     assert!(rt;
-        is_judged(
-            alloc,
-            &ONE_HIT,
-            Status::Rejected,
-            b"rejected WrongHit place 0"
-        )
+        is_judged(alloc, &ONE_PUT, Status::Done, b"accepted 1 calls")
+            && is_judged(
+                alloc,
+                &ONE_HIT,
+                Status::Rejected,
+                b"rejected WrongHit place 0"
+            )
+            && is_judged(
+                alloc,
+                b"KGTRACE9",
+                Status::BadTrace,
+                b"bad trace BadMagic at 7"
+            )
+            && is_judged(alloc, b"", Status::BadTrace, b"bad trace Truncated at 0")
     );
-    assert!(rt;
-        is_judged(
-            alloc,
-            b"KGTRACE9",
-            Status::BadTrace,
-            b"bad trace BadMagic at 7"
-        )
-    );
-    assert!(rt; is_judged(alloc, b"", Status::BadTrace, b"bad trace Truncated at 0"));
 }

@@ -122,12 +122,19 @@ fn sizes_become_a_shape_and_a_shape_sizes(rt: HostRuntime) -> Result<(), Fail> {
         threads: 1,
     };
     let mut shape = SHAPE;
-    assert!(rt; wanted.write_shape(&mut shape).is_ok());
-    assert!(rt; shape.shards == 1 && shape.lanes == 16);
-    assert!(rt; shape.threshold == 1 && shape.admit == 65536);
+    assert!(rt;
+        wanted.write_shape(&mut shape).is_ok()
+            && shape.shards == 1
+            && shape.lanes == 16
+            && shape.threshold == 1
+            && shape.admit == 65536
+    );
     let sizes = Sizes::of(&shape, 100);
-    assert!(rt; sizes.file_bytes <= 1 << 30 && sizes.file_bytes > 1 << 29);
-    assert!(rt; sizes.lane_pages * 16 * 4096 == sizes.file_bytes);
+    assert!(rt;
+        sizes.file_bytes <= 1 << 30
+            && sizes.file_bytes > 1 << 29
+            && sizes.lane_pages * 16 * 4096 == sizes.file_bytes
+    );
     let none = WantedSizes {
         threads: 0,
         ..wanted

@@ -62,6 +62,5 @@ fn counts_are_added_counter_by_counter(rt: HostRuntime) {
     other.add(Counter::Removals, u64::MAX);
     other.add(Counter::StepsInHelp, 7);
     let both = one.together(&other);
-    assert!(rt; are(&both, 3, 0, 4, 7));
-    assert!(rt; both != one);
+    assert!(rt; are(&both, 3, 0, 4, 7) && both != one);
 }

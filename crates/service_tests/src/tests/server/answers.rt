@@ -176,9 +176,7 @@ fn an_answer_that_does_not_fit_leaves_what_was_there(rt: HostRuntime) -> Result<
     let block = [b'x'; 2029];
     let value = found(&block);
     let mut out = bytes_of(&[value])?;
-    assert!(rt; out.len() == 2056);
-    assert!(rt; append_answer(&mut out, &value).is_err());
-    assert!(rt; out.len() == 2056);
+    assert!(rt; out.len() == 2056 && append_answer(&mut out, &value).is_err() && out.len() == 2056);
     let rest = [b'x'; 2013];
     append_answer(&mut out, &found(&rest))?;
     assert!(rt; out.len() == 4096);

@@ -1,7 +1,6 @@
 //! Steps that are commands of a lane of items.
 ghost use Rattle.record_pages.specs.Bounded.{IsKey};
 
-use super::super::words::is;
 use super::meta::meta_command;
 use super::scripted::Lane;
 use super::words::{data_of, expiry_of, head_of, number_or, tell_item, tell_reply};
@@ -11,7 +10,7 @@ use item_lane::{
 };
 use record_pages::{Key, ValueBuffer};
 use std::alloc::Global;
-use test_devices::Step;
+use test_devices::{Step, is};
 
 /// Makes the command of a step, and tells what it gives.
 pub fn command(

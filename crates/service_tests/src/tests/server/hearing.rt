@@ -1,5 +1,4 @@
 //! Those that hear a stream in pieces: a reader of requests, and a session over a lane.
-use super::super::words::is;
 use super::scripted::{Lane, new_lane};
 use super::words::rest_of;
 use memcached_session::{Need, Session, SessionTurn, Want, lane_step, step, what_is_wanted};
@@ -7,7 +6,7 @@ use memcached_text::{RequestReader, StreamEvent};
 use record_pages::ValueBuffer;
 use std::alloc::{AllocError, Global};
 use std::test::Fail;
-use test_devices::Step;
+use test_devices::{Step, is};
 
 /// Who hears a stream, and whether it is to be closed at its end.
 #[derive(Clone, Copy)]

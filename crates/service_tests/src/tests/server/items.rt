@@ -124,10 +124,12 @@ fn a_cell_has_its_bytes(rt: HostRuntime) -> Result<(), Fail> {
     cell.write(&MARKED, b"o", b"k");
     assert!(rt; cell.bytes() == CELL.as_slice());
     let item = CacheItem::decode(&CELL).ok_or("no cell")?;
-    assert!(rt; item.head == MARKED);
-    assert!(rt; item.bytes == b"ok".as_slice());
-    assert!(rt; CacheItem::decode(&CELL[..16]).is_none());
-    assert!(rt; CacheItem::decode(&[31, 0, 0, 0, 0, 0, 0, 0, 3, 0, 0, 1, 2, 0, 1, 0, 0]).is_none());
-    assert!(rt; CacheItem::decode(&[4, 0, 0, 0, 0, 0, 0, 0, 3, 0, 0, 0, 0, b'x']).is_none());
+    assert!(rt;
+        item.head == MARKED
+            && item.bytes == b"ok".as_slice()
+            && CacheItem::decode(&CELL[..16]).is_none()
+            && CacheItem::decode(&[31, 0, 0, 0, 0, 0, 0, 0, 3, 0, 0, 1, 2, 0, 1, 0, 0]).is_none()
+            && CacheItem::decode(&[4, 0, 0, 0, 0, 0, 0, 0, 3, 0, 0, 0, 0, b'x']).is_none()
+    );
     Ok(())
 }

@@ -1,11 +1,10 @@
 //! Steps of a stream of bytes: they write it, or tell what it asks for as a line, or what is answered to it.
-use super::super::words::is;
 use super::hearing::{Hearing, hear_pieces};
 use super::words::{data_of, rest_of};
 use memcached_text::{AnswerBytes, TextAnswer, TextRequest, append_answer, parse};
 use std::alloc::{AllocError, Global};
 use std::test::Fail;
-use test_devices::Step;
+use test_devices::{Step, is};
 
 /// Makes a step of a stream.
 pub fn on_stream(

@@ -1,7 +1,6 @@
 //! Steps that are meta commands of a lane of items.
 ghost use Rattle.record_pages.specs.Bounded.{IsKey};
 
-use super::super::words::is;
 use super::scripted::Lane;
 use super::words::{data_of, expiry_of, head_of, number_or, tell_item, tell_reply};
 use item_lane::{
@@ -11,7 +10,7 @@ use item_lane::{
 };
 use record_pages::ValueBuffer;
 use std::alloc::Global;
-use test_devices::Step;
+use test_devices::{Step, is};
 
 /// Makes the meta command of a step, and tells what it gives.
 pub fn meta_command(

@@ -1,5 +1,4 @@
 //! What the steps of a text are calls of: a lane of items, or a stream of bytes.
-use super::super::words::is;
 use super::commands::command;
 use super::lines::on_stream;
 use item_lane::CommandTurn;
@@ -9,7 +8,7 @@ use record_pages::Config;
 use service_lane::ServiceLane;
 use std::alloc::{AllocError, Global};
 use std::test::Fail;
-use test_devices::{Scripted, Step, run_text};
+use test_devices::{Scripted, Step, is, run_text};
 
 /// The lanes of these tests.
 pub type Lane = ServiceLane<MemoryDevice<4096>, 4096>;

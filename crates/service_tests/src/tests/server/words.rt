@@ -1,9 +1,8 @@
 //! The words of steps.
-use super::super::words::is;
 use arrayvec::ArrayVec;
 use item_lane::{CacheItem, CommandReply, Head, ItemMarks};
 use record_pages::PutFault;
-use test_devices::{Spelled, Step};
+use test_devices::{Spelled, Step, is};
 
 /// The byte that a byte of a word spells: a blank if it is `~`, a line feed if it is `$`.
 fn spelled(byte: u8) -> u8 {

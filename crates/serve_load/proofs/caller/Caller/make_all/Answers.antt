@@ -8,12 +8,12 @@ pub invariant_of-result : goal.invariant_of-result
 invariant_of-result g c = record {
   some = omega arith;
   few_refused = omega arith;
-  whole = complete c.args.load.now c.args.self.number (first_generator c.args.load.now.seed c.args.self.number) (begun c.args.load.now) none _ _ c.requires.seconds c.requires.most (no_operations c.args.load.now c.args.self.number);
-  is = c.requires.tallies none (is_tally c.args.load.now c.args.self.number c.args.self.generator c.args.self.words.items c.args.self.seat c.requires.begun none (no_operations c.args.load.now c.args.self.number));
+  whole = complete c.args.shared.now.load.now c.args.self.number (first_generator c.args.shared.now.load.now.seed c.args.self.number) (begun c.args.shared.now.load.now) none _ _ c.requires.seconds c.requires.most (no_operations c.args.shared.now.load.now c.args.self.number);
+  is = c.requires.tallies none (is_tally c.args.shared.now.load.now c.args.self.number c.args.self.generator c.args.self.words.items c.args.self.seat c.requires.begun none (no_operations c.args.shared.now.load.now c.args.self.number));
 }
 
 pub returns-in_default-clause-ended : goal.returns-in_default-clause-ended
-returns-in_default-clause-ended g c = no_operations c.args.load.now c.args.self.number
+returns-in_default-clause-ended g c = no_operations c.args.shared.now.load.now c.args.self.number
 
 pub invariant_of-result-2 : goal.invariant_of-result-2
 invariant_of-result-2 g c =
@@ -21,9 +21,9 @@ invariant_of-result-2 g c =
     record {
       some = omega (arith, ended.some, c.requires.most);
       few_refused = ended.few_refused;
-      whole = complete c.args.load.now c.args.self.number c.args.self.generator (standing c.args.self.words.items c.args.self.seat) c.make_each-counted.result _ _ c.requires.seconds c.requires.most ended;
-      is = c.requires.tallies c.make_each-counted.result (is_tally c.args.load.now c.args.self.number c.args.self.generator c.args.self.words.items c.args.self.seat c.requires.begun c.make_each-counted.result (has_ended c.args.load.now c.args.self.number c.args.self.generator c.args.self.words.items c.args.self.seat c.requires.begun c.make_each-counted.result ended));
+      whole = complete c.args.shared.now.load.now c.args.self.number c.args.self.generator (standing c.args.self.words.items c.args.self.seat) c.make_each-counted.result _ _ c.requires.seconds c.requires.most ended;
+      is = c.requires.tallies c.make_each-counted.result (is_tally c.args.shared.now.load.now c.args.self.number c.args.self.generator c.args.self.words.items c.args.self.seat c.requires.begun c.make_each-counted.result (has_ended c.args.shared.now.load.now c.args.self.number c.args.self.generator c.args.self.words.items c.args.self.seat c.requires.begun c.make_each-counted.result ended));
     }
 
 pub returns-clause-ended : goal.returns-clause-ended
-returns-clause-ended g c = has_ended c.args.load.now c.args.self.number c.args.self.generator c.args.self.words.items c.args.self.seat c.requires.begun c.make_each-counted.result c.make_each-counted.ensures.ended
+returns-clause-ended g c = has_ended c.args.shared.now.load.now c.args.self.number c.args.self.generator c.args.self.words.items c.args.self.seat c.requires.begun c.make_each-counted.result c.make_each-counted.ensures.ended

@@ -5,6 +5,6 @@ use Rattle.serve_load.proofs.caller.Caller.make_each.Given as goal
 
 abbrev pub invariant-loop-number : goal.invariant-loop-number
 invariant-loop-number g l =
-    (l.self.number ≡ l.fn.self.number) × (length l.self.words.items ≡ l.load.keys)
-    × IsAt l.load l.fn.self.number l.fn.self.generator l.number l.refused (standing l.fn.self.words.items l.fn.self.seat) (standing l.self.words.items l.self.seat) l.self.generator
-    × (l.limit.left ≡ l.number) × (l.limit.is_over ≡ false) × (l.limit.seconds ≡ l.load.seconds)
+    (l.self.number ≡ l.fn.self.number) × (length l.self.words.items ≡ l.shared.load.now.keys)
+    × IsAt l.shared.load.now l.fn.self.number l.fn.self.generator l.number l.refused (standing l.fn.self.words.items l.fn.self.seat) (standing l.self.words.items l.self.seat) l.self.generator
+    × (l.limit.left ≡ l.number) × (l.limit.is_over ≡ false) × (l.limit.seconds ≡ l.shared.load.now.seconds)

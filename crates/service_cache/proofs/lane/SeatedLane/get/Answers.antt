@@ -1,48 +1,71 @@
+-- A get: the register could not look, or the bytes are no key's, or the lane answered.
 use Rattle.std.proofs.Common.{◌≡◌, List, refl, sym, ◌∙◌, ap, subst}
 use Rattle.std.specs.Prelude.{IsTrue}
 use Rattle.certificate_checker.specs.Deeds.{Deed}
 use Rattle.mover.specs.Get.{answer_of}
-use Rattle.service_cache.specs.Seated.{IsSeated}
+use Rattle.service_lane.specs.Serving.{Serving, Gets}
+use Rattle.service_lane.specs.Asked.{IsLiveHit, TellsExpiry}
+use Rattle.service_cache.specs.Seated.{Seated, IsSeated}
 use Rattle.service_cache.proofs.Seating.{seated_look, seated_read, seated_live, seated_expiry}
 use Rattle.service_cache.proofs.Refusing.{is_key}
 use mathlib.Core.List.{IsPrefix}
 use Rattle.deed_book.specs.Registers.{Registered}
-use Rattle.service_cache.specs.declared.seat_fault.SeatFault.TheVariants as refusals
-use Rattle.service_cache.proofs.Answering.{is_fault, none_answered, none_answered_if, refused_by, get_refused}
+use Rattle.service_cache.proofs.Answering.{get_by}
+use Rattle.service_cache.proofs.Honesty.{expiry_as_said, gets_keep, hit_as_said, said_kept}
 use denote.Param.{param, number}
 use Rattle.service_cache.proofs.Fitting.{lane_fits}
 use Rattle.service_cache.proofs.lane.SeatedLane.get.Goals as goal
 
-pub invariant_of-self-in_err-seen : goal.invariant_of-self-in_err-seen
-invariant_of-self-in_err-seen g c =
+pub invariant_of-self : goal.invariant_of-self
+invariant_of-self g c = (
+  subst (λ (r : Registered). IsSeated g.L.KeyLanes.lane_of r c.self.inside.lane.deeds) (sym c.in_default.ensures.refused.0) c.self.invariant.0,
+  said_kept g.L.KeyLanes.is_honest g.D.PageDevice.honest c.self.inside.register c.self.inside.lane c.look.new.self c.self.inside.lane
+      (ap (λ (r : Registered). r.number) c.in_default.ensures.refused.0)
+      refl
+      c.self.invariant.1,
+)
+
+pub invariant_of-self-in-Err : goal.invariant_of-self-in-Err
+invariant_of-self-in-Err g c =
     let lane_of = g.L.KeyLanes.lane_of in
-    let looked : IsSeated lane_of c.look.new.self c.self.inside.lane.deeds = seated_look lane_of c.self.inside.register c.self.inside.lane.deeds c.self.invariant c.args.seat.now c.look.new.seat c.look.new.self c.in-Ok.ensures.seen in
-    subst (λ (ds : List Deed). IsSeated lane_of c.look.new.self ds) (sym (ap (λ s. s.deeds) c.in_err-seen.ensures.refused)) looked
+    let i = c.self.inside in
+    let looked : IsSeated lane_of c.look.new.self i.lane.deeds = seated_look lane_of i.register i.lane.deeds c.self.invariant.0 c.args.seat.now c.look.new.seat c.look.new.self c.in-Ok.ensures.seen in (
+      subst (λ (ds : List Deed). IsSeated lane_of c.look.new.self ds) (sym (ap (λ s. s.deeds) c.in-Err.ensures.refused)) looked,
+      said_kept g.L.KeyLanes.is_honest g.D.PageDevice.honest c.self.inside.register c.self.inside.lane c.look.new.self c.get.new.self
+          c.in-Ok.ensures.seen.number
+          (ap (λ (s : Serving g.row.D.Denot). g.D.PageDevice.honest s.store.device) c.in-Err.ensures.refused)
+          c.self.invariant.1,
+    )
 
 pub invariant_of-self-2 : goal.invariant_of-self-2
 invariant_of-self-2 g c =
     let lane_of = g.L.KeyLanes.lane_of in
-    let looked : IsSeated lane_of c.look.new.self c.self.inside.lane.deeds = seated_look lane_of c.self.inside.register c.self.inside.lane.deeds c.self.invariant c.args.seat.now c.look.new.seat c.look.new.self c.in-Ok.ensures.seen in
-    seated_read lane_of c.look.new.self c.self.inside.lane.deeds looked c.args.key.now c.args.moment (answer_of c.in_ok-seen.seen c.get.new.found) c.get.new.self.deeds c.in_ok-seen.ensures.gets.deeds
+    let i = c.self.inside in
+    let o = c.in-Ok-get in
+    let looked : IsSeated lane_of c.look.new.self i.lane.deeds = seated_look lane_of i.register i.lane.deeds c.self.invariant.0 c.args.seat.now c.look.new.seat c.look.new.self c.in-Ok.ensures.seen in (
+      seated_read lane_of c.look.new.self i.lane.deeds looked c.args.key.now c.args.moment (answer_of o.seen c.get.new.found) c.get.new.self.deeds o.ensures.gets.deeds,
+      said_kept g.L.KeyLanes.is_honest g.D.PageDevice.honest c.self.inside.register c.self.inside.lane c.look.new.self c.get.new.self
+          c.in-Ok.ensures.seen.number
+          (gets_keep g.row.PAGE g.D.PageDevice.honest g.D.PageDevice.failures g.D.PageDevice.held c.args.key.now c.args.moment (answer_of o.seen c.get.new.found) i.lane c.get.new.self o.ensures.gets)
+          c.self.invariant.1,
+    )
 
-pub returns-clause-live : goal.returns-clause-live
-returns-clause-live g c =
-    let lane_of = g.L.KeyLanes.lane_of in
-    let looks = c.in-Ok.ensures.seen in
-    let ours : lane_of c.args.key.now ≡ c.self.inside.register.number = c.requires ∙ sym (ap (λ s. s.register.number) c.self.view_is) in
-    rw (← c.self.view_is) (seated_live lane_of c.self.inside.register c.self.inside.lane.deeds c.self.invariant (IsTrue (g.D.PageDevice.honest c.self.inside.lane.store.device)) c.args.seat.now c.look.new.seat c.look.new.self c.args.key.now c.args.moment (answer_of c.in_ok-seen.seen c.get.new.found) looks ours c.in_ok-seen.ensures.gets.live)
+-- ---- the register could not look
 
-pub returns-clause-expires : goal.returns-clause-expires
-returns-clause-expires g c =
-    let lane_of = g.L.KeyLanes.lane_of in
-    let ours : lane_of c.args.key.now ≡ c.self.inside.register.number = c.requires ∙ sym (ap (λ s. s.register.number) c.self.view_is) in
-    rw (← c.self.view_is) (seated_expiry lane_of c.self.inside.register c.self.inside.lane.deeds c.self.invariant (IsTrue (g.D.PageDevice.honest c.self.inside.lane.store.device)) c.args.seat.now c.look.new.seat c.look.new.self c.args.key.now c.get.new.found c.in_ok-seen.seen c.in-Ok.ensures.seen ours c.in_ok-seen.ensures.expires)
+pub returns-in_default-clause-live : goal.returns-in_default-clause-live
+returns-in_default-clause-live g c = tt
 
-pub returns-clause-answered : goal.returns-clause-answered
-returns-clause-answered g c = is_key c.in_ok-seen.seen c.args.key.now c.in_ok-seen.ensures.empty c.in_ok-seen.ensures.too_long
+pub returns-in_default-clause-expires : goal.returns-in_default-clause-expires
+returns-in_default-clause-expires g c = tt
 
-pub invariant_of-self : goal.invariant_of-self
-invariant_of-self g c = subst (λ (r : Registered). IsSeated g.L.KeyLanes.lane_of r c.self.inside.lane.deeds) (sym c.in_default.ensures.refused.0) c.self.invariant
+pub returns-in_default-clause-gets : goal.returns-in_default-clause-gets
+returns-in_default-clause-gets g c = tt
+
+pub returns-in_default-clause-untouched : goal.returns-in_default-clause-untouched
+returns-in_default-clause-untouched g c = tt
+
+pub returns-in_default-clause-answered : goal.returns-in_default-clause-answered
+returns-in_default-clause-answered g c = tt
 
 pub returns-in_default-clause-number : goal.returns-in_default-clause-number
 returns-in_default-clause-number g c = ap (λ (r : Registered). r.number) c.in_default.ensures.refused.0 ∙ ap (λ s. s.register.number) c.self.view_is
@@ -53,23 +76,69 @@ returns-in_default-clause-cause g c = c.foreign.ensures.get
 pub returns-in_default-clause-refused : goal.returns-in_default-clause-refused
 returns-in_default-clause-refused g c = (ap (λ s. s.serving) c.self.view_is, refl)
 
-pub returns-in_err-seen-clause-live : goal.returns-in_err-seen-clause-live
-returns-in_err-seen-clause-live g c = none_answered_if c.from_residual.result (refusals.Key c.in_err-seen.field-0.0) _ (is_fault c.from_residual.result (refusals.Key c.in_err-seen.field-0.0) c.from_residual.ensures)
+-- ---- the bytes are no key's
 
-pub returns-in_err-seen-clause-expires : goal.returns-in_err-seen-clause-expires
-returns-in_err-seen-clause-expires g c = none_answered_if c.from_residual.result (refusals.Key c.in_err-seen.field-0.0) _ (is_fault c.from_residual.result (refusals.Key c.in_err-seen.field-0.0) c.from_residual.ensures)
+pub returns-in-Err-clause-live : goal.returns-in-Err-clause-live
+returns-in-Err-clause-live g c = tt
 
-pub returns-in_err-seen-clause-gets : goal.returns-in_err-seen-clause-gets
-returns-in_err-seen-clause-gets g c = none_answered_if c.from_residual.result (refusals.Key c.in_err-seen.field-0.0) _ (is_fault c.from_residual.result (refusals.Key c.in_err-seen.field-0.0) c.from_residual.ensures)
+pub returns-in-Err-clause-expires : goal.returns-in-Err-clause-expires
+returns-in-Err-clause-expires g c = tt
 
-pub returns-in_err-seen-clause-untouched : goal.returns-in_err-seen-clause-untouched
-returns-in_err-seen-clause-untouched g c = none_answered_if c.from_residual.result (refusals.Key c.in_err-seen.field-0.0) _ (is_fault c.from_residual.result (refusals.Key c.in_err-seen.field-0.0) c.from_residual.ensures)
+pub returns-in-Err-clause-gets : goal.returns-in-Err-clause-gets
+returns-in-Err-clause-gets g c = tt
 
-pub returns-in_err-seen-clause-seen : goal.returns-in_err-seen-clause-seen
-returns-in_err-seen-clause-seen g c = subst (λ (seen : List Deed). IsPrefix c.args.seat.now seen) (sym c.in-Ok.ensures.seen.both) c.in-Ok.ensures.seen.seen
+pub returns-in-Err-clause-untouched : goal.returns-in-Err-clause-untouched
+returns-in-Err-clause-untouched g c = tt
 
-pub returns-in_err-seen-clause-number : goal.returns-in_err-seen-clause-number
-returns-in_err-seen-clause-number g c = c.in-Ok.ensures.seen.number ∙ ap (λ s. s.register.number) c.self.view_is
+pub returns-in-Err-clause-answered : goal.returns-in-Err-clause-answered
+returns-in-Err-clause-answered g c = tt
+
+pub returns-in-Err-clause-seen : goal.returns-in-Err-clause-seen
+returns-in-Err-clause-seen g c = subst (λ (seen : List Deed). IsPrefix c.args.seat.now seen) (sym c.in-Ok.ensures.seen.both) c.in-Ok.ensures.seen.seen
+
+pub returns-in-Err-clause-number : goal.returns-in-Err-clause-number
+returns-in-Err-clause-number g c = c.in-Ok.ensures.seen.number ∙ ap (λ s. s.register.number) c.self.view_is
+
+pub returns-in-Err-clause-cause : goal.returns-in-Err-clause-cause
+returns-in-Err-clause-cause g c =
+    let why = c.in-Err.ensures in
+    get_by c.args.key.now c.in-Err.fault why.empty why.too_long why.memory c.in-Err.fault refl
+
+pub returns-in-Err-clause-refused : goal.returns-in-Err-clause-refused
+returns-in-Err-clause-refused g c =
+    let why = c.in-Err.ensures in
+    (why.refused ∙ ap (λ s. s.serving) c.self.view_is, why.refused_found)
+
+-- ---- the lane answered
+
+pub returns-clause-live : goal.returns-clause-live
+returns-clause-live g c =
+    let lane_of = g.L.KeyLanes.lane_of in
+    let honest = g.D.PageDevice.honest in
+    let a = c.args in
+    let i = c.self.inside in
+    let answer = answer_of c.in-Ok-get.seen c.get.new.found in
+    let ours : lane_of a.key.now ≡ i.register.number = c.requires ∙ sym (ap (λ s. s.register.number) c.self.view_is) in
+    subst (λ (s : Seated g.row.D.Denot). IsLiveHit (IsTrue (honest s.serving.store.device)) c.look.new.seat a.key.now a.moment answer) c.self.view_is
+    (seated_live lane_of i.register i.lane.deeds c.self.invariant.0 (IsTrue (honest i.lane.store.device)) a.seat.now c.look.new.seat c.look.new.self a.key.now a.moment answer c.in-Ok.ensures.seen ours c.in-Ok-get.ensures.gets.live)
+
+pub returns-clause-expires : goal.returns-clause-expires
+returns-clause-expires g c =
+    let lane_of = g.L.KeyLanes.lane_of in
+    let honest = g.D.PageDevice.honest in
+    let a = c.args in
+    let i = c.self.inside in
+    let ours : lane_of a.key.now ≡ i.register.number = c.requires ∙ sym (ap (λ s. s.register.number) c.self.view_is) in
+    subst (λ (s : Seated g.row.D.Denot). TellsExpiry (IsTrue (honest s.serving.store.device)) c.look.new.seat a.key.now c.get.new.found c.in-Ok-get.seen) c.self.view_is
+    (seated_expiry lane_of i.register i.lane.deeds c.self.invariant.0 (IsTrue (honest i.lane.store.device)) a.seat.now c.look.new.seat c.look.new.self a.key.now c.get.new.found c.in-Ok-get.seen c.in-Ok.ensures.seen ours c.in-Ok-get.ensures.expires)
+
+pub returns-clause-gets : goal.returns-clause-gets
+returns-clause-gets g c =
+    let d = g.D.PageDevice in
+    subst (λ (s : Seated g.row.D.Denot). Gets g.row.PAGE d.honest d.failures d.held c.args.key.now c.args.moment (answer_of c.in-Ok-get.seen c.get.new.found) s.serving c.get.new.self) c.self.view_is c.in-Ok-get.ensures.gets
+
+pub returns-clause-untouched : goal.returns-clause-untouched
+returns-clause-untouched g c = c.in-Ok-get.ensures.untouched
 
 pub returns-clause-seen : goal.returns-clause-seen
 returns-clause-seen g c = subst (λ (seen : List Deed). IsPrefix c.args.seat.now seen) (sym c.in-Ok.ensures.seen.both) c.in-Ok.ensures.seen.seen
@@ -77,24 +146,58 @@ returns-clause-seen g c = subst (λ (seen : List Deed). IsPrefix c.args.seat.now
 pub returns-clause-number : goal.returns-clause-number
 returns-clause-number g c = c.in-Ok.ensures.seen.number ∙ ap (λ s. s.register.number) c.self.view_is
 
-pub returns-in_err-seen-clause-cause : goal.returns-in_err-seen-clause-cause
-returns-in_err-seen-clause-cause g c =
-    let why = c.in_err-seen.ensures in
-    get_refused c.args.key.now c.in_err-seen.field-0.0 why.empty why.too_long why.memory c.from_residual.result (is_fault c.from_residual.result (refusals.Key c.in_err-seen.field-0.0) c.from_residual.ensures)
+pub returns-clause-answered : goal.returns-clause-answered
+returns-clause-answered g c = is_key c.in-Ok-get.seen c.args.key.now c.in-Ok-get.ensures.empty c.in-Ok-get.ensures.too_long
 
-pub returns-in_err-seen-clause-answered : goal.returns-in_err-seen-clause-answered
-returns-in_err-seen-clause-answered g c = none_answered c.from_residual.result (refusals.Key c.in_err-seen.field-0.0) _ (is_fault c.from_residual.result (refusals.Key c.in_err-seen.field-0.0) c.from_residual.ensures)
+pub returns-clause-cause : goal.returns-clause-cause
+returns-clause-cause g c = tt
 
-pub returns-in_err-seen-clause-refused : goal.returns-in_err-seen-clause-refused
-returns-in_err-seen-clause-refused g c =
-    let why = c.in_err-seen.ensures in
-    refused_by c.from_residual.result (refusals.Key c.in_err-seen.field-0.0) _ (is_fault c.from_residual.result (refusals.Key c.in_err-seen.field-0.0) c.from_residual.ensures) (why.refused ∙ ap (λ s. s.serving) c.self.view_is, why.refused_found)
-
-pub returns-clause-gets : goal.returns-clause-gets
-returns-clause-gets g c = rw (← c.self.view_is) c.in_ok-seen.ensures.gets
-
-pub returns-clause-untouched : goal.returns-clause-untouched
-returns-clause-untouched g c = c.in_ok-seen.ensures.untouched
+pub returns-clause-refused : goal.returns-clause-refused
+returns-clause-refused g c = tt
 
 pub get-requires : goal.get-requires
 get-requires g c = lane_fits (param 0 g.row.D) (param 1 (number g.row.PAGE)) (param 2 g.row.L) (param 3 g.row.J) g.D.PageDevice g.L.KeyLanes g.J.BookName assumption
+
+pub returns-in_default-clause-words : goal.returns-in_default-clause-words
+returns-in_default-clause-words g c = ap (λ s. s.words) c.self.view_is
+
+pub returns-in-Err-clause-words : goal.returns-in-Err-clause-words
+returns-in-Err-clause-words g c = ap (λ s. s.words) c.self.view_is
+
+pub returns-clause-words : goal.returns-clause-words
+returns-clause-words g c = ap (λ s. s.words) c.self.view_is
+
+pub returns-in_default-clause-hit : goal.returns-in_default-clause-hit
+returns-in_default-clause-hit g c = tt
+
+pub returns-in_default-clause-told : goal.returns-in_default-clause-told
+returns-in_default-clause-told g c = tt
+
+pub returns-in-Err-clause-hit : goal.returns-in-Err-clause-hit
+returns-in-Err-clause-hit g c = tt
+
+pub returns-in-Err-clause-told : goal.returns-in-Err-clause-told
+returns-in-Err-clause-told g c = tt
+
+-- ---- and as is said of the key's lane
+
+pub returns-clause-hit : goal.returns-clause-hit
+returns-clause-hit g c =
+    let lane_of = g.L.KeyLanes.lane_of in
+    let honest = g.D.PageDevice.honest in
+    let a = c.args in
+    let i = c.self.inside in
+    let answer = answer_of c.in-Ok-get.seen c.get.new.found in
+    let ours : lane_of a.key.now ≡ i.register.number = c.requires ∙ sym (ap (λ s. s.register.number) c.self.view_is) in
+    hit_as_said g.L.KeyLanes.is_honest lane_of a.key.now i.register.number (honest i.lane.store.device) ours c.self.invariant.1 c.look.new.seat a.moment answer
+    (seated_live lane_of i.register i.lane.deeds c.self.invariant.0 (IsTrue (honest i.lane.store.device)) a.seat.now c.look.new.seat c.look.new.self a.key.now a.moment answer c.in-Ok.ensures.seen ours c.in-Ok-get.ensures.gets.live)
+
+pub returns-clause-told : goal.returns-clause-told
+returns-clause-told g c =
+    let lane_of = g.L.KeyLanes.lane_of in
+    let honest = g.D.PageDevice.honest in
+    let a = c.args in
+    let i = c.self.inside in
+    let ours : lane_of a.key.now ≡ i.register.number = c.requires ∙ sym (ap (λ s. s.register.number) c.self.view_is) in
+    expiry_as_said g.L.KeyLanes.is_honest lane_of a.key.now i.register.number (honest i.lane.store.device) ours c.self.invariant.1 c.look.new.seat c.get.new.found c.in-Ok-get.seen
+    (seated_expiry lane_of i.register i.lane.deeds c.self.invariant.0 (IsTrue (honest i.lane.store.device)) a.seat.now c.look.new.seat c.look.new.self a.key.now c.get.new.found c.in-Ok-get.seen c.in-Ok.ensures.seen ours c.in-Ok-get.ensures.expires)

@@ -8,4 +8,7 @@ pub returns-clause-within : goal.returns-clause-within
 returns-clause-within g c = c.number.ensures.within
 
 pub returns-clause-seated : goal.returns-clause-seated
-returns-clause-seated g c = rw (← c.self.view_is) c.self.invariant
+returns-clause-seated g c = rw (← c.self.view_is) c.self.invariant.0
+
+pub returns-clause-said : goal.returns-clause-said
+returns-clause-said g c = rw (← c.self.view_is) c.self.invariant.1

@@ -1,0 +1,2 @@
+pub mod NoTags
+pub mod Ranges

@@ -1,0 +1,3 @@
+pub mod CallLines
+pub mod Guarding
+pub mod Pages

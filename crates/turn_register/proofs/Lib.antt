@@ -1,0 +1,3 @@
+mod Sound
+mod Growing
+mod Coming
