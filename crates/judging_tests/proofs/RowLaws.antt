@@ -22,10 +22,10 @@ use Rattle.judging_tests.specs.Objects.{IsReasonTold, as_spelled}
 use Rattle.std.specs.Prelude.{false}
 
 -- of an outcome that is a rejection, told unasked as an object, if nothing was warmed
-pub reason_told : (skew : ℕ) (known : Option (List ℕ)) (rejection : Rejection) (old new : List ℕ) (outcome : Outcome) → outcome ≡ Rejected rejection → ToldText Json (record { skew = skew; warm = false; reading = whole; window = None }) known (record { explain = false; all = false }) None outcome (Some old) (Some new) → IsReasonTold rejection old new
+pub reason_told : (skew : ℕ) (known : Option (List ℕ)) (rejection : Rejection) (old new : List ℕ) (outcome : Outcome) → outcome ≡ Rejected rejection → ToldText Json (record { skew = skew; warm = false; reading = whole; window = None }) known (record { explain = false; all = false; page = false }) None outcome (Some old) (Some new) → IsReasonTold rejection old new
 reason_told skew known rejection old new outcome rejects was =
     let scope : Scope = record { skew = skew; warm = false; reading = whole; window = None } in
-    let told : ToldText Json scope known (record { explain = false; all = false }) None (Rejected rejection) (Some old) (Some new) = subst (λ (o : Outcome). ToldText Json scope known (record { explain = false; all = false }) None o (Some old) (Some new)) rejects was in
+    let told : ToldText Json scope known (record { explain = false; all = false; page = false }) None (Rejected rejection) (Some old) (Some new) = subst (λ (o : Outcome). ToldText Json scope known (record { explain = false; all = false; page = false }) None o (Some old) (Some new)) rejects was in
     let is = told.is.is in
     let object : Text → Extent → List ℕ = λ text extent. ended Json (with_calls Json text.calls text.lines (own_of extent (length text.calls)) is.witness (with_rows Json [] (found_rows text.calls text.lines extent (found.Rejected is.witness) is.faults))) in
     let of_its_own = ap (λ (text : Text). object text told.is.extent) (sym is.text_is) in
