@@ -261,6 +261,7 @@ fn visible(
     let mut visible = SetRecords::new(alloc);
     for slot in 0..records.len() {
         let Some(lent) = records.next() else {
+            // Each round takes one record, and there are as many rounds as records.
             unreachable!();
         };
         let placed = place(layout, lent.key);

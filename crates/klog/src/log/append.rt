@@ -138,6 +138,7 @@ impl<const PAGE: usize> KLog<PAGE> {
         };
         let entering = Prediction::new(Prediction::ENTERING).unwrap();
         let Ok(()) = self.index.add(set, tag, place, entering) else {
+            // Only a full index refuses an entry, and the log has fewer than its most.
             unreachable!();
         };
         true

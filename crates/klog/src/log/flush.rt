@@ -63,6 +63,7 @@ impl<const PAGE: usize> KLog<PAGE> {
     {
         let number = self.flushed_number();
         let Some(writer) = self.flushing.page(self.done as usize) else {
+            // Flushing of a segment ends with its last page, so the next page is one of the segment.
             unreachable!();
         };
         let mut bytes = [0u8; PAGE];

@@ -67,6 +67,7 @@ impl<D: PageDevice<PAGE>, const PAGE: usize> Store<D, PAGE> {
         match self.move_commit(&plan, job.number) {
             Committed::Written => Ok(MovedWhole::Written),
             Committed::Forgotten => Ok(MovedWhole::Forgotten),
+            // The move is in flight, and the policy's plan is lawful: so it is neither stale nor bad.
             _ => unreachable!(),
         }
     }
