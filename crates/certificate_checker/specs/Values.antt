@@ -6,12 +6,12 @@ use Rattle.record_pages.specs.declared.timed_value.TimedValue.{TimedValue}
 use Rattle.record_pages.specs.Expiry.{timed}
 use Rattle.trace_file.specs.declared.act.Act.{Act}
 use Rattle.trace_file.specs.declared.act.Act.TheVariants.{Put, Remove, Hit, Miss}
-use Rattle.certificate_checker.specs.declared.lent_key.LentKey.{LentKey}
+use Rattle.trace_file.specs.declared.lent_word.LentWord.{LentWord}
 use Rattle.certificate_checker.specs.declared.lent_value.LentValue.{LentValue}
 use Rattle.certificate_checker.specs.Current.{given_at}
 
 -- the value with its expiry that the map has for a key, by the key's bytes, whatever hasher it has
-abbrev pub value_at : {S : Type 0} → HashMap LentKey LentValue S → List ℕ → Option TimedValue
+abbrev pub value_at : {S : Type 0} → HashMap LentWord LentValue S → List ℕ → Option TimedValue
 value_at values key = option_map (λ v. timed v.bytes.now v.expires) (get_by (λ k. bytes_eq key k.bytes.now) values)
 
 -- a hit has the value that there is, live at its moment

@@ -12,7 +12,6 @@ mod judge_fault;
 mod judged;
 mod judgement;
 mod laws;
-mod lent_key;
 mod lent_value;
 mod places;
 mod values;

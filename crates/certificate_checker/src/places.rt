@@ -3,13 +3,12 @@ ghost use Rattle.std.specs.Prelude.{◌≡◌, ◌<◌, IfOk};
 ghost use Rattle.certificate_checker.specs.Faults.{IsFirstBadInterval, IsFirstOfPlaces};
 
 use crate::fault::Fault;
-use crate::lent_key::LentKey;
 use crate::lent_value::LentValue;
 use crate::values::{allows, note};
 use std::alloc::{AllocError, Global};
 use std::collections::HashMap;
 use std::hash::BuildHasher;
-use trace_file::{Certificate, History};
+use trace_file::{Certificate, History, LentWord};
 
 /// The position of the first call that ends before it starts.
 pub(crate) fn bad_interval(history: &History) -> Option<usize>
@@ -35,7 +34,7 @@ pub(crate) fn first_fault_of_places<S: BuildHasher + Drop>(
 {
     let mut seen = vec![in alloc; false; history.len()]?;
     let mut greatest_start = 0;
-    let mut values: HashMap<LentKey<'_>, LentValue<'_>, S> = HashMap::with_hasher(
+    let mut values: HashMap<LentWord<'_>, LentValue<'_>, S> = HashMap::with_hasher(
         alloc,
         hash_builder,
     );

@@ -7,7 +7,7 @@ use Rattle.std.proofs.lemmas.List.Elements.{All-push}
 use Rattle.std.proofs.lemmas.Option.{same_Some}
 use Rattle.trace_file.specs.Calls.{IsCall, value_of}
 use Rattle.trace_file.specs.declared.call.Call.{Call}
-use Rattle.certificate_finder.specs.Numbers.{AreNumbers, KeepsNumbers}
+use Rattle.trace_file.specs.Numbers.{AreNumbers, KeepsNumbers}
 use Rattle.history_window.specs.declared.coded_call.CodedCall.{CodedCall}
 use Rattle.history_window.specs.Codes.{AreCodes, IsCode, IsFitCode}
 use Rattle.history_window.proofs.ListLemmas.{at_front, at_push, same_at}

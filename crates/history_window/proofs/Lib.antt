@@ -30,7 +30,6 @@ mod KnowLemmas
 mod KnowMore
 mod Telling
 mod ListLemmas
-mod NumberLemmas
 mod CodeLemmas
 mod RankLemmas
 mod PeakLemmas

@@ -3,7 +3,6 @@ pub mod Codes
 pub mod Cuts
 pub mod Knowing
 pub mod Laws
-pub mod Numbers
 pub mod Peaks
 pub mod Ranks
 pub mod Reaches

@@ -7,7 +7,7 @@ use Rattle.trace_file.specs.declared.act.Act.{Act}
 use Rattle.trace_file.specs.declared.act.Act.TheVariants.{Put, Remove, Hit, Miss}
 use Rattle.trace_file.specs.declared.call.Call.{Call}
 use Rattle.history_window.specs.declared.key_state.KeyState.{KeyState}
-use Rattle.history_window.specs.declared.history_word.HistoryWord.{HistoryWord}
+use Rattle.trace_file.specs.declared.lent_word.LentWord.{LentWord}
 use Rattle.history_window.specs.Acts.{is_reading}
 
 -- what is known of a key that no call was made for
@@ -21,7 +21,7 @@ no_state = record {
 }
 
 -- what the map has for a key, by the key's bytes, whatever hasher it has
-abbrev pub state_at : {S : Type 0} → HashMap HistoryWord KeyState S → List ℕ → KeyState
+abbrev pub state_at : {S : Type 0} → HashMap LentWord KeyState S → List ℕ → KeyState
 state_at states key = option_map_or (λ state. state) (get_by (λ k. bytes_eq key k.bytes.now) states) no_state
 
 -- with a write

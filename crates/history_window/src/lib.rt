@@ -5,7 +5,6 @@ mod blocks;
 mod coded_call;
 mod coding;
 mod cuts;
-mod history_word;
 mod key_state;
 mod laws;
 mod peak;

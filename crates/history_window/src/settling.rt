@@ -6,14 +6,13 @@ ghost use Rattle.history_window.specs.Knowing.{SecondKnown};
 ghost use Rattle.history_window.specs.Settled.{AreUnsettled};
 ghost use Rattle.history_window.specs.States.{is_settled_by, settles, state_at};
 
-use crate::history_word::HistoryWord;
 use crate::key_state::KeyState;
 use crate::states::{is_hit, state_of, states_of};
 use certificate_finder::MAX_CALLS;
 use std::alloc::{AllocError, Global};
 use std::collections::HashMap;
 use std::hash::BuildHasher;
-use trace_file::{CallRef, History};
+use trace_file::{CallRef, History, LentWord};
 
 /// The positions of all calls of a history but for its settled hits, in order.
 ///
@@ -41,7 +40,7 @@ pub fn unsettled<S: BuildHasher + Drop>(
 /// The same by what is known of each key.
 fn unsettled_by<'a, S: BuildHasher>(
     alloc: Global,
-    states: &HashMap<HistoryWord<'a>, KeyState, S>,
+    states: &HashMap<LentWord<'a>, KeyState, S>,
     history: &'a History,
     bound: u64,
 ) -> Result<Vec<u32>, AllocError>
@@ -60,7 +59,7 @@ fn unsettled_by<'a, S: BuildHasher>(
 
 /// Whether a call is a settled hit.
 fn is_settled_hit<'a, S: BuildHasher>(
-    states: &HashMap<HistoryWord<'a>, KeyState, S>,
+    states: &HashMap<LentWord<'a>, KeyState, S>,
     call: &CallRef<'a>,
     bound: u64,
 ) -> bool
@@ -69,7 +68,7 @@ fn is_settled_hit<'a, S: BuildHasher>(
     if !is_hit(&call.act) || call.end >= bound {
         return false;
     }
-    state_of(states, HistoryWord { bytes: call.key }).is_settled(bound)
+    state_of(states, LentWord { bytes: call.key }).is_settled(bound)
 }
 
 /// Lists a position, if a test holds.

@@ -6,12 +6,11 @@ ghost use Rattle.history_window.specs.Knowing.{FirstKnown, SecondKnown};
 ghost use Rattle.history_window.specs.States.{Changes, acts_match, after_first, after_second, state_at, unlike_by};
 ghost use Rattle.history_window.specs.Acts.{is_putting, is_reading, is_writing};
 
-use crate::history_word::HistoryWord;
 use crate::key_state::KeyState;
 use std::alloc::{AllocError, Global};
 use std::collections::HashMap;
 use std::hash::BuildHasher;
-use trace_file::{ActRef, CallRef, History};
+use trace_file::{ActRef, CallRef, History, LentWord};
 
 /// Whether an act writes.
 pub(crate) fn is_write(act: &ActRef<'_>) -> bool
@@ -87,8 +86,8 @@ fn is_remove(act: &ActRef<'_>) -> bool
 
 /// What is known of a key.
 pub(crate) fn state_of<'a, S: BuildHasher>(
-    states: &HashMap<HistoryWord<'a>, KeyState, S>,
-    key: HistoryWord<'a>,
+    states: &HashMap<LentWord<'a>, KeyState, S>,
+    key: LentWord<'a>,
 ) -> KeyState
     ensures { result ≡ state_at states.now key.entry.bytes.now }
 {
@@ -100,20 +99,20 @@ pub(crate) fn state_of<'a, S: BuildHasher>(
 
 /// Sets what is known of a call's key.
 fn set_state<'a, S: BuildHasher>(
-    states: &mut HashMap<HistoryWord<'a>, KeyState, S>,
+    states: &mut HashMap<LentWord<'a>, KeyState, S>,
     call: &CallRef<'a>,
     state: KeyState,
 ) -> Result<(), AllocError>
     ensures { OnOk result (Changes true (call_shown call.now) state (state_at states.old) (state_at states.new)) }
 {
-    let key = HistoryWord { bytes: call.key };
+    let key = LentWord { bytes: call.key };
     states.insert(key, state)?;
     Ok(())
 }
 
 /// Notes a call, if it writes.
 fn note_write<'a, S: BuildHasher>(
-    states: &mut HashMap<HistoryWord<'a>, KeyState, S>,
+    states: &mut HashMap<LentWord<'a>, KeyState, S>,
     call: &CallRef<'a>,
 ) -> Result<(), AllocError>
     ensures { OnOk result (Changes (is_writing (act_shown call.now.act)) (call_shown call.now) (after_first (state_at states.old call.now.key.now) (call_shown call.now)) (state_at states.old) (state_at states.new)) }
@@ -121,7 +120,7 @@ fn note_write<'a, S: BuildHasher>(
     if !is_write(&call.act) {
         return Ok(());
     }
-    let state = state_of(states, HistoryWord { bytes: call.key });
+    let state = state_of(states, LentWord { bytes: call.key });
     set_state(states, call, state.after_write(call))
 }
 
@@ -138,7 +137,7 @@ fn is_unlike(history: &History, state: KeyState, call: &CallRef<'_>) -> bool
 
 /// Notes a call, if it writes, once the greatest starts are known.
 fn note_place<'a, S: BuildHasher>(
-    states: &mut HashMap<HistoryWord<'a>, KeyState, S>,
+    states: &mut HashMap<LentWord<'a>, KeyState, S>,
     history: &'a History,
     position: u32,
     call: &CallRef<'a>,
@@ -148,7 +147,7 @@ fn note_place<'a, S: BuildHasher>(
     if !is_write(&call.act) {
         return Ok(());
     }
-    let state = state_of(states, HistoryWord { bytes: call.key });
+    let state = state_of(states, LentWord { bytes: call.key });
     let unlike = is_unlike(history, state, call);
     set_state(states, call, state.after_place(position, call, unlike))
 }
@@ -158,7 +157,7 @@ fn first_pass<'a, S: BuildHasher + Drop>(
     alloc: Global,
     hash_builder: S,
     history: &'a History,
-) -> Result<HashMap<HistoryWord<'a>, KeyState, S>, AllocError>
+) -> Result<HashMap<LentWord<'a>, KeyState, S>, AllocError>
     ensures { IfOk result (λ states. (key : List ℕ) → FirstKnown history.now (length history.now) key (state_at states key)) }
 {
     let mut states = HashMap::with_hasher(alloc, hash_builder);
@@ -171,7 +170,7 @@ fn first_pass<'a, S: BuildHasher + Drop>(
 
 /// And whether the last writes of each key did the same.
 fn second_pass<'a, S: BuildHasher>(
-    states: &mut HashMap<HistoryWord<'a>, KeyState, S>,
+    states: &mut HashMap<LentWord<'a>, KeyState, S>,
     history: &'a History,
 ) -> Result<(), AllocError>
     requires few { length history.now < 2 ^ 31 }
@@ -190,7 +189,7 @@ pub(crate) fn states_of<'a, S: BuildHasher + Drop>(
     alloc: Global,
     hash_builder: S,
     history: &'a History,
-) -> Result<HashMap<HistoryWord<'a>, KeyState, S>, AllocError>
+) -> Result<HashMap<LentWord<'a>, KeyState, S>, AllocError>
     requires { length history.now < 2 ^ 31 }
     ensures { IfOk result (λ states. (key : List ℕ) → SecondKnown history.now (length history.now) key (state_at states key)) }
 {

@@ -2,21 +2,14 @@
 use Rattle.std.specs.Prelude.{ℕ, ◌+◌, ◌-◌, ◌*◌, ◌%◌, ◌^◌, Bool, ◌&&◌, not, List, ◌++◌, length, take, drop, replicate, fold, nat_lt, nat_le, ◌==◌, if◌then◌else◌, Option, Some, None, unwrap_or, position}
 use Rattle.std.specs.List.{list_all}
 use Rattle.std.specs.Fmt.{decimal}
+use Rattle.record_pages.specs.Digits.{are_digits, digits_value}
 use Rattle.item_lane.specs.declared.change.Change.{Change}
 use Rattle.item_lane.specs.declared.change.Change.TheVariants.{Increment, Decrement}
-
--- decimal digits and nothing else
-abbrev pub are_digits : List ℕ → Bool
-are_digits bytes = list_all (λ b. nat_le 48 b && nat_le b 57) bytes
-
--- what digits write
-abbrev pub value_of : List ℕ → ℕ
-value_of digits = fold (λ n digit. 10 * n + (digit - 48)) 0 digits
 
 -- the number of 64 bits that one to twenty digits write
 abbrev pub number_of : List ℕ → Option ℕ
 number_of digits =
-    if not (length digits == 0) && (nat_le (length digits) 20 && (are_digits digits && nat_lt (value_of digits) (2 ^ 64))) then Some (value_of digits) else None
+    if not (length digits == 0) && (nat_le (length digits) 20 && (are_digits digits && nat_lt (digits_value digits) (2 ^ 64))) then Some (digits_value digits) else None
 
 -- where the first space stands, or the end
 abbrev pub digits_end : List ℕ → ℕ

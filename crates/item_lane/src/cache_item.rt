@@ -16,7 +16,7 @@ pub struct CacheItem<'a> {
 
 impl<'a> CacheItem<'a> {
     /// The item that these bytes are the cell of, or `None` if they are no cell: if they end within the head, if a mark is set
-    /// that has no meaning, or if flags of 0 follow. What `CellBuffer::write` wrote of an item gives the item.
+    /// that has no meaning, or if flags of 0 follow. The bytes of `HeadText` and the data after them give the item.
     pub fn decode(bytes: &'a [u8]) -> Option<CacheItem<'a>>
         ensures decoded { option_map kept_shown result ≡ decoded bytes.now }
         ensures within { IfSome result (λ item. length item.bytes.now ≤ length bytes.now) }

@@ -1,6 +1,8 @@
 // The numbers that items hold, and what incr and decr make of them.
 ghost use Rattle.std.specs.Prelude.{◌≡◌, ◌≤◌, ◌<◌, ◌^◌, ◌==◌, length, position, IsTrue, IfSome};
-ghost use Rattle.item_lane.specs.Numbers.{are_digits, value_of, number_of, digits_end, are_spaces, number_in, changed};
+ghost use Rattle.item_lane.specs.Numbers.{number_of, digits_end, are_spaces, number_in, changed};
+
+use record_pages::{MAX_DIGITS, are_digits, digits_value};
 
 /// A change of a number.
 #[derive(Clone, Copy)]
@@ -22,9 +24,6 @@ impl Change {
         }
     }
 }
-
-/// The most digits that are read.
-const MAX_DIGITS: usize = 20;
 
 /// The number that data hold: one to twenty digits, and after them only spaces.
 pub(crate) fn number_in(bytes: &[u8]) -> Option<u64>
@@ -70,25 +69,5 @@ fn number(digits: &[u8]) -> Option<u64>
     if digits.is_empty() || digits.len() > MAX_DIGITS || !are_digits(digits) {
         return None;
     }
-    u64::try_from(value(digits)).ok()
-}
-
-// Whether bytes are digits and nothing else.
-fn are_digits(bytes: &[u8]) -> bool
-    ensures { result ≡ are_digits bytes.now }
-{
-    bytes.iter().all(|b| b'0' <= *b && *b <= b'9')
-}
-
-// What up to `MAX_DIGITS` digits write.
-fn value(digits: &[u8]) -> u128
-    requires digits { IsTrue (are_digits digits.now) }
-    requires few { length digits.now ≤ 20 }
-    ensures { result ≡ value_of digits.now }
-{
-    let mut value = 0u128;
-    for digit in digits {
-        value = 10 * value + u128::from(*digit - b'0');
-    }
-    value
+    u64::try_from(digits_value(digits)).ok()
 }

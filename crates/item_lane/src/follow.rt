@@ -7,9 +7,9 @@ ghost use Rattle.item_lane.specs.Cells.{cell_text};
 ghost use Rattle.item_lane.specs.Plans.{plan_shown, parts_shown};
 ghost use Rattle.item_lane.specs.Doing.{Follows, Lands, IsTooLarge};
 
-use crate::cell::CellBuffer;
 use crate::command_reply::CommandReply;
 use crate::command_verdict::{CommandVerdict, ItemParts};
+use crate::head_text::HeadText;
 use page_device::PageDevice;
 use record_pages::{Key, PAGE_OVERHEAD, PutFault, RECORD_OVERHEAD, Value};
 use service_lane::ServiceLane;
@@ -101,12 +101,11 @@ fn make_object<const PAGE: usize>(
     if is_too_large::<PAGE>(key, &parts) {
         return Err(PutFault::TooLarge);
     }
-    let mut cell = CellBuffer::empty();
-    cell.write(&parts.head, parts.front, parts.back);
+    let head = HeadText::of(&parts.head);
     let Ok(key) = Key::new(alloc, key) else {
         return Err(PutFault::OutOfMemory);
     };
-    let Ok(value) = Value::new(alloc, cell.bytes()) else {
+    let Ok(value) = Value::of_parts(alloc, head.bytes(), parts.front, parts.back) else {
         return Err(PutFault::OutOfMemory);
     };
     Ok(CellObject { key, value })

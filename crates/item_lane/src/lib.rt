@@ -5,7 +5,6 @@
 #![tactic(auto)]
 
 mod cache_item;
-mod cell;
 mod change;
 mod command_reply;
 mod command_turn;
@@ -16,6 +15,7 @@ mod deleting;
 mod expiry_change;
 mod follow;
 mod head;
+mod head_text;
 mod item_marks;
 mod item_reply;
 mod look;
@@ -27,7 +27,6 @@ mod storing;
 mod touching;
 
 pub use cache_item::CacheItem;
-pub use cell::CellBuffer;
 pub use change::Change;
 pub use command_reply::CommandReply;
 pub use command_turn::CommandTurn;
@@ -36,6 +35,7 @@ pub use counting::{Delta, change_number};
 pub use deleting::delete;
 pub use expiry_change::ExpiryChange;
 pub use head::Head;
+pub use head_text::HeadText;
 pub use item_marks::ItemMarks;
 pub use item_reply::ItemReply;
 pub use look::get;

@@ -1,4 +1,5 @@
 pub mod Bounded
+pub mod Digits
 pub mod Expiry
 pub mod Sizes
 pub mod FieldNames

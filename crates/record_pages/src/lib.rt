@@ -1,11 +1,12 @@
 //! Keys, values, records, pages, the answers of a cache and its configuration: the words that all layers share. Also
-//! lists of items, the room for a value, and laws of sets of numbers that are bits of words.
+//! numbers in digits, lists of items, the room for a value, and laws of sets of numbers that are bits of words.
 #![tactic(auto)]
 
 mod answer;
 mod buffer;
 mod bytes_out;
 mod config;
+mod digits;
 mod encode;
 mod field;
 mod form;
@@ -36,6 +37,7 @@ mod value;
 pub use answer::Answer;
 pub use buffer::ValueBuffer;
 pub use config::{Config, ConfigFault};
+pub use digits::{MAX_DIGITS, are_digits, digits_value};
 pub use encode::{encode_log_page, encode_set_page, fits};
 pub use field::Field;
 pub use item_list::ItemList;

@@ -1,5 +1,5 @@
 // The value of an object.
-ghost use Rattle.std.specs.Prelude.{◌≡◌, ◌<◌, ◌↔◌, ℕ, List, length, IfOk, nat_eq};
+ghost use Rattle.std.specs.Prelude.{◌≡◌, ◌<◌, ◌≤◌, ◌+◌, ◌++◌, ◌↔◌, ℕ, List, length, IfOk, nat_eq};
 ghost use Rattle.std.specs.Cmp.Lexicographic.{pointwise, nat_list_eq_equiv};
 ghost use Rattle.std.specs.Cmp.{partial_equiv_from_equiv};
 ghost use Rattle.record_pages.specs.Bounded.{IsValue};
@@ -51,6 +51,27 @@ impl Value {
         }
     }
 
+    /// The value with a copy of the bytes of three parts, one after the other.
+    pub fn of_parts(
+        alloc: Global,
+        head: &[u8],
+        front: &[u8],
+        back: &[u8],
+    ) -> Result<Value, ValueFault>
+        ensures ok { IfOk result (λ value. (value ≡ head.now ++ (front.now ++ back.now)) × IsValue value) }
+        ensures too_long { (result ≡ Err ValueFault.ValueTooLong)
+            ↔ (2048 < length head.now + (length front.now + length back.now)) }
+    {
+        let data = front.len().saturating_add(back.len());
+        if head.len().saturating_add(data) > Self::MAX_LEN {
+            return Err(ValueFault::ValueTooLong);
+        }
+        match joined(alloc, head, front, back) {
+            Ok(bytes) => Ok(Value { bytes }),
+            Err(_) => Err(ValueFault::OutOfMemory),
+        }
+    }
+
     /// The bytes of the value, in order.
     pub fn bytes(&self) -> &[u8]
         ensures value { result.now ≡ self.now }
@@ -66,6 +87,18 @@ impl Value {
         let bytes = self.bytes.clone()?;
         Ok(Value { bytes })
     }
+}
+
+// The bytes of three parts, which have room in one piece of memory.
+fn joined(alloc: Global, head: &[u8], front: &[u8], back: &[u8]) -> Result<Vec<u8>, AllocError>
+    requires { length head.now + (length front.now + length back.now) ≤ 2048 }
+    ensures { IfOk result (λ bytes. bytes.items ≡ head.now ++ (front.now ++ back.now)) }
+{
+    let mut bytes = Vec::with_capacity(alloc, head.len() + front.len() + back.len())?;
+    bytes.extend_from_slice(head)?;
+    bytes.extend_from_slice(front)?;
+    bytes.extend_from_slice(back)?;
+    Ok(bytes)
 }
 
 impl PartialEq for Value {

@@ -2,15 +2,13 @@
 ghost use Rattle.std.specs.Prelude.{◌≡◌, ◌^◌, ◌<◌, ◌≤◌, ◌&&◌, ◌==◌, nat_le, ℕ, true, not, length, slice_index, IfNone, IfSome, IsTrue, Some, map};
 ghost use Rattle.std.specs.Fmt.{decimal};
 ghost use Rattle.std.specs.List.{list_all};
-ghost use Rattle.script_words.specs.Words.{is_word, words_of, are_digits, is_numeral, value_of, number_below, number_of, time_of};
+ghost use Rattle.script_words.specs.Words.{is_word, words_of, is_numeral, number_below, number_of, time_of};
 
 use arrayvec::ArrayVec;
+use record_pages::{MAX_DIGITS, are_digits, digits_value};
 
 /// The most words of a line that spells something: `config` and eight numbers.
 pub const MAX_WORDS: usize = 9;
-
-/// The most digits of a number below 2 ^ 64.
-const MAX_DIGITS: usize = 20;
 
 /// Whether bytes are a word.
 pub(crate) fn is_word(bytes: &[u8]) -> bool
@@ -45,24 +43,11 @@ pub fn words_in<'a>(line: &'a [u8]) -> Option<ArrayVec<&'a [u8], MAX_WORDS>>
     if are_words(&parts) { Some(parts) } else { None }
 }
 
-/// What up to `MAX_DIGITS` digits write.
-fn value(digits: &[u8]) -> u128
-    requires digits { IsTrue (are_digits digits.now) }
-    requires few { length digits.now ≤ 20 }
-    ensures { result ≡ value_of digits.now }
-{
-    let mut value = 0u128;
-    for digit in digits {
-        value = 10 * value + u128::from(*digit - b'0');
-    }
-    value
-}
-
 /// Whether a word is decimal digits without a leading zero, or 0 itself.
 fn is_numeral(word: &[u8]) -> bool
     ensures { result ≡ is_numeral word.now }
 {
-    are_within(word, b'0', b'9') && !word.is_empty() && (word[0] != b'0' || word.len() == 1)
+    are_digits(word) && !word.is_empty() && (word[0] != b'0' || word.len() == 1)
 }
 
 /// The number of at most `MAX_DIGITS` digits that a word writes.
@@ -72,7 +57,7 @@ fn numeral(word: &[u8]) -> Option<u128>
     if !is_numeral(word) || word.len() > MAX_DIGITS {
         return None;
     }
-    Some(value(word))
+    Some(digits_value(word))
 }
 
 /// The number of 32 bits that a word writes.

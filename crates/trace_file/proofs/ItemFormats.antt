@@ -11,8 +11,8 @@ use Rattle.trace_file.specs.declared.act.Act.{Act}
 use Rattle.trace_file.specs.declared.act.Act.TheVariants as acts
 use Rattle.trace_file.specs.declared.call.Call.{Call}
 use Rattle.trace_file.specs.declared.header.Header.{Header}
-use Rattle.trace_file.specs.declared.kind.Kind.{Kind}
-use Rattle.trace_file.specs.declared.kind.Kind.TheVariants.{Put, Remove, Hit, Miss}
+use Rattle.trace_file.specs.declared.call_kind.CallKind.{CallKind}
+use Rattle.trace_file.specs.declared.call_kind.CallKind.TheVariants.{Put, Remove, Hit, Miss}
 use Rattle.trace_file.specs.declared.item_fault.ItemFault.TheVariants.{Fault}
 use Rattle.trace_file.specs.declared.trace_fault.TraceFault.{TraceFault}
 use Rattle.trace_file.specs.declared.trace_fault.TraceFault.TheVariants.{BadMagic, TooMany, BadKind, BadKey, BadValue}
@@ -20,7 +20,7 @@ use Rattle.trace_file.specs.declared.version.Version.{Version}
 use Rattle.trace_file.specs.declared.version.Version.TheVariants.{Timed, Timeless}
 use Rattle.trace_file.specs.Calls.{value_of, time_of}
 use Rattle.trace_file.specs.Outcome.{IsOfText}
-use Rattle.trace_file.specs.Reading.{Place, place, Read, ◌>>=◌, bytes_at, number_at, byte_at, or_fault, kind_of, kind_at, key_at, value_at, time_at, act_at, call_at, position_at, first_difference, version_by, version_at, count_at, header_at}
+use Rattle.trace_file.specs.Reading.{Place, place, Read, ◌>>=◌, bytes_at, number_at, byte_at, or_fault, kind_of_byte, kind_at, key_at, value_at, time_at, act_at, call_at, position_at, first_difference, version_by, version_at, count_at, header_at}
 use Rattle.trace_file.specs.Text.{magic, most_calls, kind_byte, key_text, value_text, time_text, act_text, call_text, header_of, header_text, CanSay, IsCallOf}
 use Rattle.trace_file.proofs.Formats.{IsBytes, same_fault, longer, Takes, IsFormat, same_lawful, same_text, pure_format, then_format, guard_format, bytes_format, wide16, wide32, wide64, number_format, byte_format}
 
@@ -48,14 +48,14 @@ value_format =
 
 -- ---- a kind
 
-pub kind_number : Kind → ℕ
+pub kind_number : CallKind → ℕ
 kind_number Put = 1
 kind_number Remove = 2
 kind_number Hit = 3
 kind_number Miss = 4
 
 -- it is one of 1 to 4
-pub kind_number-known : (kind : Kind) → (1 ≤ kind_number kind) × (kind_number kind ≤ 4)
+pub kind_number-known : (kind : CallKind) → (1 ≤ kind_number kind) × (kind_number kind ≤ 4)
 unfolding kind_number
 kind_number-known Put = (omega arith, omega arith)
 kind_number-known Remove = (omega arith, omega arith)
@@ -70,7 +70,7 @@ pub kind_number-hit : kind_number Hit ≡ 3
 unfolding kind_number
 kind_number-hit = refl
 
-by_tests : (p r h m : Bool) (b : ℕ) (kind : Kind) → (p ≡ true → b ≡ 1) → (r ≡ true → b ≡ 2) → (h ≡ true → b ≡ 3) → (m ≡ true → b ≡ 4)
+by_tests : (p r h m : Bool) (b : ℕ) (kind : CallKind) → (p ≡ true → b ≡ 1) → (r ≡ true → b ≡ 2) → (h ≡ true → b ≡ 3) → (m ≡ true → b ≡ 4)
     → cond p (Some Put) (cond r (Some Remove) (cond h (Some Hit) (cond m (Some Miss) None))) ≡ Some kind → kind_number kind ≡ b
 unfolding kind_number
 by_tests true r h m b kind one two three four e = ap kind_number (sym (same_Some Put kind e)) ∙ sym (one refl)
@@ -79,10 +79,10 @@ by_tests false false true m b kind one two three four e = ap kind_number (sym (s
 by_tests false false false true b kind one two three four e = ap kind_number (sym (same_Some Miss kind e)) ∙ sym (four refl)
 by_tests false false false false b kind one two three four e = absurd cc
 
-number_is : (b : ℕ) (kind : Kind) → kind_of b ≡ Some kind → kind_number kind ≡ b
+number_is : (b : ℕ) (kind : CallKind) → kind_of_byte b ≡ Some kind → kind_number kind ≡ b
 number_is b kind e = by_tests (eqb b 1) (eqb b 2) (eqb b 3) (eqb b 4) b kind (eqb-true b 1) (eqb-true b 2) (eqb-true b 3) (eqb-true b 4) e
 
-kind_again : (kind : Kind) → (kind_number kind < 256) × (kind_of (kind_number kind) ≡ Some kind)
+kind_again : (kind : CallKind) → (kind_number kind < 256) × (kind_of_byte (kind_number kind) ≡ Some kind)
 unfolding kind_number
 kind_again Put = (omega arith, refl)
 kind_again Remove = (omega arith, refl)
@@ -111,22 +111,22 @@ module _ {A : Type 0} (d : TraceFault) where
     kind = option_kind is o;
   }
 
-abbrev pub kind_text : Kind → List ℕ
+abbrev pub kind_text : CallKind → List ℕ
 kind_text kind = (kind_number kind ∷ []) ++ []
 
 pub kind_format : IsFormat kind_at kind_text (λ _. Unit {0})
 unfolding kind_at
 kind_format =
     same_lawful (then_format byte_at (λ n. n ∷ []) (λ n. n < 256)
-    (λ at b p. or_fault (kind_of b) (BadKind at) p) (λ _. []) (λ b kind. kind_of b ≡ Some kind) kind_number
-    byte_format (λ at b. option_format (BadKind at) tt (kind_of b)) (λ b kind h k. number_is b kind k))
+    (λ at b p. or_fault (kind_of_byte b) (BadKind at) p) (λ _. []) (λ b kind. kind_of_byte b ≡ Some kind) kind_number
+    byte_format (λ at b. option_format (BadKind at) tt (kind_of_byte b)) (λ b kind h k. number_is b kind k))
     (λ _. Unit {0})
     (λ kind h. tt)
     (λ kind h. kind_again kind)
 
 -- ---- an act
 
-kind_of_act : Act → Kind
+kind_of_act : Act → CallKind
 kind_of_act (acts.Put value expires) = Put
 kind_of_act acts.Remove = Remove
 kind_of_act (acts.Hit value moment) = Hit
@@ -153,11 +153,11 @@ time_format Timeless meant = pure_format meant
 abbrev IsSaid : Version → Act → Type 0
 IsSaid version act = IsValue (value_of act) × ((time_of act < 2 ^ 64) × CanSay version act)
 
-abbrev IsActOf : Version → Kind → Act → Type 0
+abbrev IsActOf : Version → CallKind → Act → Type 0
 IsActOf version kind act = IsSaid version act × (kind_of_act act ≡ kind)
 
 -- a value and a time, and the act that has them
-module _ (version : Version) (kind : Kind) (meant : ℕ) (make : List ℕ → ℕ → Act) (has : (value : List ℕ) (time : ℕ) → value_of (make value time) ≡ value)
+module _ (version : Version) (kind : CallKind) (meant : ℕ) (make : List ℕ → ℕ → Act) (has : (value : List ℕ) (time : ℕ) → value_of (make value time) ≡ value)
     (has_time : (value : List ℕ) (time : ℕ) → time_of (make value time) ≡ time)
     (spelled : (value : List ℕ) (time : ℕ) → act_text version (make value time) ≡ value_text value ++ time_text version time)
     (is : (value : List ℕ) (time : ℕ) → kind_of_act (make value time) ≡ kind) (back : (act : Act) → kind_of_act act ≡ kind → make (value_of act) (time_of act) ≡ act)
@@ -246,7 +246,7 @@ miss_back (acts.Hit value moment) e = absurd cc
 miss_back acts.Miss e = refl
 
 -- an act with no value
-bare : (version : Version) (kind : Kind) (it : Act) → IsSaid version it → [] ≡ act_text version it → kind_of_act it ≡ kind → ((act : Act) → kind_of_act act ≡ kind → it ≡ act)
+bare : (version : Version) (kind : CallKind) (it : Act) → IsSaid version it → [] ≡ act_text version it → kind_of_act it ≡ kind → ((act : Act) → kind_of_act act ≡ kind → it ≡ act)
     → IsFormat (λ p. Ok (it, p)) (act_text version) (IsActOf version kind)
 bare version kind it said empty is back =
     same_lawful (same_text (pure_format it) (act_text version) (λ act h. empty ∙ ap (act_text version) h)) (IsActOf version kind)
@@ -261,7 +261,7 @@ miss_said : (version : Version) → IsSaid version acts.Miss
 miss_said Timed = (omega arith, (omega arith, tt))
 miss_said Timeless = (omega arith, (omega arith, tt))
 
-act_format : (version : Version) (kind : Kind) → IsFormat (act_at version kind) (act_text version) (IsActOf version kind)
+act_format : (version : Version) (kind : CallKind) → IsFormat (act_at version kind) (act_text version) (IsActOf version kind)
 unfolding act_at kind_of_act
 act_format version Put = valued version Put never (λ v t. acts.Put v t) (λ v t. refl) (λ v t. refl) (λ v t. refl) (λ v t. refl) put_back (put_says version) (put_said version)
 act_format version Remove = bare version Remove acts.Remove (remove_said version) refl refl remove_back
@@ -288,57 +288,57 @@ text_from_start version c = to_be_bytes w64 c.start ++ text_from_end version c
 abbrev text_from_caller : Version → Call → List ℕ
 text_from_caller version c = to_be_bytes w16 c.caller ++ text_from_start version c
 
-abbrev pub read_act : Version → Kind → ℕ → ℕ → ℕ → List ℕ → Place → Read Call
+abbrev pub read_act : Version → CallKind → ℕ → ℕ → ℕ → List ℕ → Place → Read Call
 read_act version kind caller start end key p = act_at version kind p >>= λ act. Ok (made caller start end key act.0, act.1)
 
-abbrev pub read_key : Version → Kind → ℕ → ℕ → ℕ → Place → Read Call
+abbrev pub read_key : Version → CallKind → ℕ → ℕ → ℕ → Place → Read Call
 read_key version kind caller start end p = key_at p >>= λ key. read_act version kind caller start end key.0 key.1
 
-abbrev pub read_end : Version → Kind → ℕ → ℕ → Place → Read Call
+abbrev pub read_end : Version → CallKind → ℕ → ℕ → Place → Read Call
 read_end version kind caller start p = number_at w64 p >>= λ end. read_key version kind caller start end.0 end.1
 
-abbrev pub read_start : Version → Kind → ℕ → Place → Read Call
+abbrev pub read_start : Version → CallKind → ℕ → Place → Read Call
 read_start version kind caller p = number_at w64 p >>= λ start. read_end version kind caller start.0 start.1
 
-abbrev pub read_caller : Version → Kind → Place → Read Call
+abbrev pub read_caller : Version → CallKind → Place → Read Call
 read_caller version kind p = number_at w16 p >>= λ caller. read_start version kind caller.0 caller.1
 
-abbrev from_act : Version → Kind → ℕ → ℕ → ℕ → List ℕ → Call → Type 0
+abbrev from_act : Version → CallKind → ℕ → ℕ → ℕ → List ℕ → Call → Type 0
 from_act version kind caller start end key c = IsActOf version kind c.act × (made caller start end key c.act ≡ c)
 
-abbrev from_key : Version → Kind → ℕ → ℕ → ℕ → Call → Type 0
+abbrev from_key : Version → CallKind → ℕ → ℕ → ℕ → Call → Type 0
 from_key version kind caller start end c = IsKey c.key × from_act version kind caller start end c.key c
 
-abbrev from_end : Version → Kind → ℕ → ℕ → Call → Type 0
+abbrev from_end : Version → CallKind → ℕ → ℕ → Call → Type 0
 from_end version kind caller start c = (c.end < 2 ^ 64) × from_key version kind caller start c.end c
 
-abbrev from_start : Version → Kind → ℕ → Call → Type 0
+abbrev from_start : Version → CallKind → ℕ → Call → Type 0
 from_start version kind caller c = (c.start < 2 ^ 64) × from_end version kind caller c.start c
 
-abbrev from_caller : Version → Kind → Call → Type 0
+abbrev from_caller : Version → CallKind → Call → Type 0
 from_caller version kind c = (c.caller < 2 ^ 16) × from_start version kind c.caller c
 
-act_part : (version : Version) (kind : Kind) (caller start end : ℕ) (key : List ℕ) → IsFormat (read_act version kind caller start end key) (text_from_act version) (from_act version kind caller start end key)
+act_part : (version : Version) (kind : CallKind) (caller start end : ℕ) (key : List ℕ) → IsFormat (read_act version kind caller start end key) (text_from_act version) (from_act version kind caller start end key)
 act_part version kind caller start end key =
     then_format (act_at version kind) (act_text version) (IsActOf version kind) (λ at act p. Ok (made caller start end key act, p)) (λ _. []) (λ act c. made caller start end key act ≡ c) (λ c. c.act)
     (act_format version kind) (λ at act. pure_format (made caller start end key act)) (λ act c h k. ap (λ (x : Call). x.act) (sym k))
 
-key_part : (version : Version) (kind : Kind) (caller start end : ℕ) → IsFormat (read_key version kind caller start end) (text_from_key version) (from_key version kind caller start end)
+key_part : (version : Version) (kind : CallKind) (caller start end : ℕ) → IsFormat (read_key version kind caller start end) (text_from_key version) (from_key version kind caller start end)
 key_part version kind caller start end =
     then_format key_at key_text IsKey (λ at key p. read_act version kind caller start end key p) (text_from_act version) (λ key c. from_act version kind caller start end key c) (λ c. c.key)
     key_format (λ at key. act_part version kind caller start end key) (λ key c h k. ap (λ (x : Call). x.key) (sym k.1))
 
-end_part : (version : Version) (kind : Kind) (caller start : ℕ) → IsFormat (read_end version kind caller start) (text_from_end version) (from_end version kind caller start)
+end_part : (version : Version) (kind : CallKind) (caller start : ℕ) → IsFormat (read_end version kind caller start) (text_from_end version) (from_end version kind caller start)
 end_part version kind caller start =
     then_format (number_at w64) (to_be_bytes w64) (λ n. n < 2 ^ 64) (λ at end p. read_key version kind caller start end p) (text_from_key version) (λ end c. from_key version kind caller start end c) (λ c. c.end)
     (number_format w64 (2 ^ 64) wide64) (λ at end. key_part version kind caller start end) (λ end c h k. ap (λ (x : Call). x.end) (sym k.1.1))
 
-start_part : (version : Version) (kind : Kind) (caller : ℕ) → IsFormat (read_start version kind caller) (text_from_start version) (from_start version kind caller)
+start_part : (version : Version) (kind : CallKind) (caller : ℕ) → IsFormat (read_start version kind caller) (text_from_start version) (from_start version kind caller)
 start_part version kind caller =
     then_format (number_at w64) (to_be_bytes w64) (λ n. n < 2 ^ 64) (λ at start p. read_end version kind caller start p) (text_from_end version) (λ start c. from_end version kind caller start c) (λ c. c.start)
     (number_format w64 (2 ^ 64) wide64) (λ at start. end_part version kind caller start) (λ start c h k. ap (λ (x : Call). x.start) (sym k.1.1.1))
 
-caller_part : (version : Version) (kind : Kind) → IsFormat (read_caller version kind) (text_from_caller version) (from_caller version kind)
+caller_part : (version : Version) (kind : CallKind) → IsFormat (read_caller version kind) (text_from_caller version) (from_caller version kind)
 caller_part version kind =
     then_format (number_at w16) (to_be_bytes w16) (λ n. n < 2 ^ 16) (λ at caller p. read_start version kind caller p) (text_from_start version) (λ caller c. from_start version kind caller c) (λ c. c.caller)
     (number_format w16 (2 ^ 16) wide16) (λ at caller. start_part version kind caller) (λ caller c h k. ap (λ (x : Call). x.caller) (sym k.1.1.1.1))

@@ -4,6 +4,7 @@ mod Extending
 mod Formats
 mod ItemFormats
 mod Meetings
+mod NumberLemmas
 mod ReaderLaws
 mod Standings
 mod Takings

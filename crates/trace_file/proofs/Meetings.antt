@@ -8,15 +8,15 @@ use Rattle.std.proofs.lemmas.List.Elements.{recursion_from_All}
 use Rattle.record_pages.specs.Expiry.{never}
 use Rattle.trace_file.specs.declared.act.Act.TheVariants as acts
 use Rattle.trace_file.specs.declared.header.Header.{Header}
-use Rattle.trace_file.specs.declared.kind.Kind.{Kind}
-use Rattle.trace_file.specs.declared.kind.Kind.TheVariants.{Put, Remove, Hit, Miss}
+use Rattle.trace_file.specs.declared.call_kind.CallKind.{CallKind}
+use Rattle.trace_file.specs.declared.call_kind.CallKind.TheVariants.{Put, Remove, Hit, Miss}
 use Rattle.trace_file.specs.declared.item_fault.ItemFault.{ItemFault}
 use Rattle.trace_file.specs.declared.item_fault.ItemFault.TheVariants.{Fault}
 use Rattle.trace_file.specs.declared.trace_fault.TraceFault.{TraceFault}
 use Rattle.trace_file.specs.declared.trace_fault.TraceFault.TheVariants.{BadMagic, TooMany, BadKind, BadKey, BadValue, Truncated, TrailingBytes, ReadFault, OutOfMemory}
 use Rattle.trace_file.specs.declared.version.Version.{Version}
 use Rattle.trace_file.specs.declared.version.Version.TheVariants.{Timed, Timeless}
-use Rattle.trace_file.specs.Reading.{Place, place, Read, ◌>>=◌, bytes_at, number_at, byte_at, or_fault, kind_of, kind_at, key_at, value_at, act_at, call_at, first_difference, version_by, version_at, count_at, header_at, many_at, trace_at, met, first_fault_of}
+use Rattle.trace_file.specs.Reading.{Place, place, Read, ◌>>=◌, bytes_at, number_at, byte_at, or_fault, kind_of_byte, kind_at, key_at, value_at, act_at, call_at, first_difference, version_by, version_at, count_at, header_at, many_at, trace_at, met, first_fault_of}
 use Rattle.trace_file.specs.Standing.{DiffersAt, CountsTooMany, AreCalls, IsKind, IsHead, HasBadValue, HasMore, StandsIn}
 use Rattle.trace_file.specs.Stream.{in_front}
 use Rattle.trace_file.specs.Text.{magic, most_calls, call_text, key_text, header_of, header_text, IsCallOf}
@@ -130,7 +130,7 @@ in_magic bytes f e = in_header bytes f (stops (version_at (place 0 bytes)) (Faul
 
 -- ---- a call
 
-unknown_kind : (b : ℕ) → ¬ IsKind b → kind_of b ≡ None
+unknown_kind : (b : ℕ) → ¬ IsKind b → kind_of_byte b ≡ None
 unknown_kind b unknown =
     let one = ne_eqb b 1 (λ e. unknown (omega (arith, e), omega (arith, e))) in
     let two = ne_eqb b 2 (λ e. unknown (omega (arith, e), omega (arith, e))) in
@@ -138,19 +138,19 @@ unknown_kind b unknown =
     let four = ne_eqb b 4 (λ e. unknown (omega (arith, e), omega (arith, e))) in
     rw (one, two, three, four) refl
 
-known_kind : (b : ℕ) → IsKind b → (kind : Kind) × (kind_of b ≡ Some kind)
+known_kind : (b : ℕ) → IsKind b → (kind : CallKind) × (kind_of_byte b ≡ Some kind)
 known_kind b is =
     elim (cases_Bool (eqb b 1)) [
-      | inl e ↦ (Put, ap kind_of (eqb-true b 1 e))
+      | inl e ↦ (Put, ap kind_of_byte (eqb-true b 1 e))
       | inr e1 ↦
           elim (cases_Bool (eqb b 2)) [
-            | inl e ↦ (Remove, ap kind_of (eqb-true b 2 e))
+            | inl e ↦ (Remove, ap kind_of_byte (eqb-true b 2 e))
             | inr e2 ↦
                 elim (cases_Bool (eqb b 3)) [
-                  | inl e ↦ (Hit, ap kind_of (eqb-true b 3 e))
+                  | inl e ↦ (Hit, ap kind_of_byte (eqb-true b 3 e))
                   | inr e3 ↦
                       elim (cases_Bool (eqb b 4)) [
-                        | inl e ↦ (Miss, ap kind_of (eqb-true b 4 e))
+                        | inl e ↦ (Miss, ap kind_of_byte (eqb-true b 4 e))
                         | inr e4 ↦
                             let one : b ≢ 1 = eqb-false b 1 e1 in
                             let two : b ≢ 2 = eqb-false b 2 e2 in
@@ -165,20 +165,20 @@ known_kind b is =
 kind_met : (version : Version) (at b : ℕ) (more : List ℕ) → ¬ IsKind b → call_at version (place at (b ∷ more)) ≡ Err (Fault (BadKind at))
 unfolding call_at kind_at byte_at
 kind_met version at b more unknown =
-    stops (kind_at (place at (b ∷ more))) (Fault (BadKind at)) (λ kind. read_caller version kind.0 kind.1) (ap (λ (o : Option Kind). or_fault o (BadKind at) (place (at + 1) more)) (unknown_kind b unknown))
+    stops (kind_at (place at (b ∷ more))) (Fault (BadKind at)) (λ kind. read_caller version kind.0 kind.1) (ap (λ (o : Option CallKind). or_fault o (BadKind at) (place (at + 1) more)) (unknown_kind b unknown))
 
 number_is_there : (w : Width) (at : ℕ) (bytes rest : List ℕ) → length bytes ≡ byte_len w → number_at w (place at (bytes ++ rest)) ≡ Ok (from_be_bytes w bytes, place (at + length bytes) rest)
 unfolding number_at
 number_is_there w at bytes rest len = ap (λ (r : Read (List ℕ)). r >>= λ b. Ok (from_be_bytes w b.0, b.1)) ((bytes_format (byte_len w)).again at bytes rest len)
 
 -- after the head of a call its key is read
-record Headed (version : Version) (kind : Kind) (at : ℕ) (head rest : List ℕ) : Type 0 where
+record Headed (version : Version) (kind : CallKind) (at : ℕ) (head rest : List ℕ) : Type 0 where
   pub caller : ℕ
   pub start : ℕ
   pub end : ℕ
   pub read : call_at version (place at (head ++ rest)) ≡ read_key version kind caller start end (place (at + length head) rest)
 
-head_is_read : (version : Version) (kind : Kind) (at : ℕ) (head rest : List ℕ) (is : IsHead head) → kind_of is.kind ≡ Some kind → Headed version kind at head rest
+head_is_read : (version : Version) (kind : CallKind) (at : ℕ) (head rest : List ℕ) (is : IsHead head) → kind_of_byte is.kind ≡ Some kind → Headed version kind at head rest
 unfolding call_at kind_at byte_at
 head_is_read version kind at head rest is known =
     let numbers = is.numbers in
@@ -206,7 +206,7 @@ head_is_read version kind at head rest is known =
     let at_b = at_a + length a in
     let at_c = at_b + length b in
     let here : at_c + length c ≡ at + length head = omega (arith, of_head, long, of_a, of_b, of_c) in
-    let known_here : kind_at (place at (is.kind ∷ from_a)) ≡ Ok (kind, place at_a from_a) = ap (λ (o : Option Kind). or_fault o (BadKind at) (place at_a from_a)) known in
+    let known_here : kind_at (place at (is.kind ∷ from_a)) ≡ Ok (kind, place at_a from_a) = ap (λ (o : Option CallKind). or_fault o (BadKind at) (place at_a from_a)) known in
     record {
       caller = caller;
       start = start;
@@ -239,16 +239,16 @@ long_value_met at len more small above =
 
 -- a kind whose calls have values
 record Valued (version : Version) (number : ℕ) : Type 0 where
-  pub kind : Kind
-  pub known : kind_of number ≡ Some kind
+  pub kind : CallKind
+  pub known : kind_of_byte number ≡ Some kind
   pub stopped : (p : Place) (f : TraceFault) → value_at p ≡ Err (Fault f) → act_at version kind p ≡ Err (Fault f)
 
 has_values : (version : Version) (number : ℕ) → (number ≡ 1) ⊎ (number ≡ 3) → Valued version number
 unfolding act_at
 has_values version number which =
     elim which [
-      | inl put ↦ record { kind = Put; known = ap kind_of put; stopped = λ p f e. stops (value_at p) (Fault f) (λ value. timed_at version never (λ v t. acts.Put v t) value.0 value.1) e }
-      | inr hit ↦ record { kind = Hit; known = ap kind_of hit; stopped = λ p f e. stops (value_at p) (Fault f) (λ value. timed_at version 0 (λ v t. acts.Hit v t) value.0 value.1) e }
+      | inl put ↦ record { kind = Put; known = ap kind_of_byte put; stopped = λ p f e. stops (value_at p) (Fault f) (λ value. timed_at version never (λ v t. acts.Put v t) value.0 value.1) e }
+      | inr hit ↦ record { kind = Hit; known = ap kind_of_byte hit; stopped = λ p f e. stops (value_at p) (Fault f) (λ value. timed_at version 0 (λ v t. acts.Hit v t) value.0 value.1) e }
     ]
 
 value_met : (version : Version) (bytes : List ℕ) (at : ℕ) (s : HasBadValue bytes at) (start : ℕ)

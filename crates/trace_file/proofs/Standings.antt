@@ -12,8 +12,8 @@ use Rattle.trace_file.specs.declared.act.Act.{Act}
 use Rattle.trace_file.specs.declared.act.Act.TheVariants as acts
 use Rattle.trace_file.specs.declared.call.Call.{Call}
 use Rattle.trace_file.specs.declared.header.Header.{Header}
-use Rattle.trace_file.specs.declared.kind.Kind.{Kind}
-use Rattle.trace_file.specs.declared.kind.Kind.TheVariants.{Put, Remove, Hit, Miss}
+use Rattle.trace_file.specs.declared.call_kind.CallKind.{CallKind}
+use Rattle.trace_file.specs.declared.call_kind.CallKind.TheVariants.{Put, Remove, Hit, Miss}
 use Rattle.trace_file.specs.declared.item_fault.ItemFault.{ItemFault}
 use Rattle.trace_file.specs.declared.item_fault.ItemFault.TheVariants.{Fault}
 use Rattle.trace_file.specs.declared.trace.Trace.{Trace}
@@ -21,7 +21,7 @@ use Rattle.trace_file.specs.declared.trace_fault.TraceFault.{TraceFault}
 use Rattle.trace_file.specs.declared.trace_fault.TraceFault.TheVariants.{BadMagic, TooMany, BadKind, BadKey, BadValue, Truncated, TrailingBytes, ReadFault, OutOfMemory}
 use Rattle.trace_file.specs.declared.version.Version.{Version}
 use Rattle.trace_file.specs.declared.version.Version.TheVariants.{Timed, Timeless}
-use Rattle.trace_file.specs.Reading.{Place, place, Read, ◌>>=◌, bytes_at, number_at, first_at, byte_at, or_fault, kind_of, kind_at, key_at, value_at, time_at, act_at, call_at, position_at, first_difference, version_by, version_at, count_at, header_at, many_at, end_at, trace_at, first_fault_of}
+use Rattle.trace_file.specs.Reading.{Place, place, Read, ◌>>=◌, bytes_at, number_at, first_at, byte_at, or_fault, kind_of_byte, kind_at, key_at, value_at, time_at, act_at, call_at, position_at, first_difference, version_by, version_at, count_at, header_at, many_at, end_at, trace_at, first_fault_of}
 use Rattle.trace_file.specs.Standing.{DiffersAt, CountsTooMany, AreCalls, IsKind, IsHead, HasMore, StandsIn}
 use Rattle.trace_file.specs.Stream.{pair_of}
 use Rattle.trace_file.specs.Text.{magic, most_calls, call_text, position_text, key_text, header_of, header_text, text_of, IsCallOf, IsPairOf}
@@ -200,7 +200,7 @@ none_by false false true m e = absurd cc
 none_by false false false true e = absurd cc
 none_by false false false false e = (refl, refl, refl, refl)
 
-no_kind : (b : ℕ) → kind_of b ≡ None → ¬ IsKind b
+no_kind : (b : ℕ) → kind_of_byte b ≡ None → ¬ IsKind b
 no_kind b e is =
     let n = none_by (eqb b 1) (eqb b 2) (eqb b 3) (eqb b 4) e in
     let one : b ≢ 1 = eqb-false b 1 n.0 in
@@ -212,11 +212,11 @@ no_kind b e is =
 kind_stands : (p : Place) (f : TraceFault) → IsBytes p.bytes → kind_at p ≡ Err (Fault f) → CallStands p f
 unfolding kind_at byte_at
 kind_stands p f fits e =
-    elim (bind_err (byte_at p) (λ b. or_fault (kind_of b.0) (BadKind p.at) b.1) (Fault f) e) [
+    elim (bind_err (byte_at p) (λ b. or_fault (kind_of_byte b.0) (BadKind p.at) b.1) (Fault f) e) [
       | at_first e' ↦ absurd (no_fault_in_byte p.at p.bytes f e')
       | at_second x e' g ↦
           let t = byte_format.takes p x.0 x.1 fits e' in
-          let d = or_fault_err (kind_of x.0) (BadKind p.at) x.1 f g in
+          let d = or_fault_err (kind_of_byte x.0) (BadKind p.at) x.1 f g in
           subst (CallStands p) d.1 (x.0, x.1.bytes, t.0.parts, no_kind x.0 d.0, refl)
     ]
 
@@ -262,7 +262,7 @@ timed_fault : (version : Version) (meant : ℕ) (make : List ℕ → ℕ → Act
 timed_fault version meant make value p f e =
     elim (bind_err (time_at version meant p) (λ time. Ok (make value time.0, time.1)) (Fault f) e) [ at_first e' ↦ no_fault_in_time version meant p f e' | at_second x e' g ↦ not_ok (make value x.0, x.1) f g ]
 
-act_fault : (version : Version) (kind : Kind) (p : Place) (f : TraceFault) → IsBytes p.bytes → act_at version kind p ≡ Err (Fault f) → ((kind_number kind ≡ 1) ⊎ (kind_number kind ≡ 3)) × LongValue p f
+act_fault : (version : Version) (kind : CallKind) (p : Place) (f : TraceFault) → IsBytes p.bytes → act_at version kind p ≡ Err (Fault f) → ((kind_number kind ≡ 1) ⊎ (kind_number kind ≡ 3)) × LongValue p f
 unfolding act_at
 act_fault version Put p f fits e =
     elim (bind_err (value_at p) (λ value. timed_at version never (λ v t. acts.Put v t) value.0 value.1) (Fault f) e) [
@@ -278,10 +278,10 @@ act_fault version Hit p f fits e =
 act_fault version Miss p f fits e = absurd (not_ok (acts.Miss, p) f e)
 
 -- what a call has before its key
-abbrev head_of : Kind → ℕ → ℕ → ℕ → List ℕ
+abbrev head_of : CallKind → ℕ → ℕ → ℕ → List ℕ
 head_of kind caller start end = ((kind_text kind ++ to_be_bytes w16 caller) ++ to_be_bytes w64 start) ++ to_be_bytes w64 end
 
-head_is : (kind : Kind) (caller start end : ℕ) → IsHead (head_of kind caller start end)
+head_is : (kind : CallKind) (caller start end : ℕ) → IsHead (head_of kind caller start end)
 head_is kind caller start end = record {
   kind = kind_number kind;
   numbers = (to_be_bytes w16 caller ++ to_be_bytes w64 start) ++ to_be_bytes w64 end;
@@ -290,7 +290,7 @@ head_is kind caller start end = record {
   long = refl;
 }
 
-module _ (version : Version) (p : Place) (f : TraceFault) (kind : Kind) where
+module _ (version : Version) (p : Place) (f : TraceFault) (kind : CallKind) where
   in_act : (caller start end : ℕ) (key : List ℕ) (q r : Place) → Takes p (head_of kind caller start end) q → Takes q (key_text key) r → IsKey key → read_act version kind caller start end key r ≡ Err (Fault f) → CallStands p f
   unfolding head_is
   in_act caller start end key q r took took' is e =

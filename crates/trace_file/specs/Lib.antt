@@ -2,7 +2,9 @@ pub mod Calls
 pub mod Ending
 pub mod FaultText
 pub mod Given
+pub mod Kinds
 pub mod Lent
+pub mod Numbers
 pub mod Outcome
 pub mod Reading
 pub mod Sending

@@ -7,8 +7,8 @@ use Rattle.trace_file.specs.declared.act.Act.{Act}
 use Rattle.trace_file.specs.declared.act.Act.TheVariants as acts
 use Rattle.trace_file.specs.declared.call.Call.{Call}
 use Rattle.trace_file.specs.declared.header.Header.{Header}
-use Rattle.trace_file.specs.declared.kind.Kind.{Kind}
-use Rattle.trace_file.specs.declared.kind.Kind.TheVariants.{Put, Remove, Hit, Miss}
+use Rattle.trace_file.specs.declared.call_kind.CallKind.{CallKind}
+use Rattle.trace_file.specs.declared.call_kind.CallKind.TheVariants.{Put, Remove, Hit, Miss}
 use Rattle.trace_file.specs.declared.item_fault.ItemFault.{ItemFault}
 use Rattle.trace_file.specs.declared.item_fault.ItemFault.TheVariants.{Short, Fault}
 use Rattle.trace_file.specs.declared.trace.Trace.{Trace}
@@ -59,13 +59,13 @@ or_fault (Some x) fault p = Ok (x, p)
 or_fault None fault p = Err (Fault fault)
 
 -- the kind that a byte stands for
-abbrev pub kind_of : ℕ → Option Kind
-kind_of b = if b == 1 then Some Put else (if b == 2 then Some Remove else (if b == 3 then Some Hit else (if b == 4 then Some Miss else None)))
+abbrev pub kind_of_byte : ℕ → Option CallKind
+kind_of_byte b = if b == 1 then Some Put else (if b == 2 then Some Remove else (if b == 3 then Some Hit else (if b == 4 then Some Miss else None)))
 
-unfoldable pub kind_at : Place → Read Kind
+unfoldable pub kind_at : Place → Read CallKind
 kind_at p = do
   byte ← byte_at p
-  or_fault (kind_of byte.0) (BadKind p.at) byte.1
+  or_fault (kind_of_byte byte.0) (BadKind p.at) byte.1
 
 -- a key, after its length, which is not 0
 unfoldable pub key_at : Place → Read (List ℕ)
@@ -85,7 +85,7 @@ time_at Timed meant p = number_at w64 p
 time_at Timeless meant p = Ok (meant, p)
 
 -- the act of a kind, with its value and its time if it has them
-unfoldable pub act_at : Version → Kind → Place → Read Act
+unfoldable pub act_at : Version → CallKind → Place → Read Act
 act_at version Put p = do
   value ← value_at p
   expires ← time_at version never value.1

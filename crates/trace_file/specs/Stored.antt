@@ -4,15 +4,15 @@ use Rattle.trace_file.specs.declared.act.Act.{Act}
 use Rattle.trace_file.specs.declared.act.Act.TheVariants as acts
 use Rattle.trace_file.specs.declared.call.Call.{Call}
 use Rattle.trace_file.specs.declared.stored_call.StoredCall.{StoredCall}
-use Rattle.trace_file.specs.declared.kind.Kind.{Kind}
-use Rattle.trace_file.specs.declared.kind.Kind.TheVariants.{Put, Remove, Hit, Miss}
+use Rattle.trace_file.specs.declared.call_kind.CallKind.{CallKind}
+use Rattle.trace_file.specs.declared.call_kind.CallKind.TheVariants.{Put, Remove, Hit, Miss}
 
 -- this many bytes of a store, from an offset on
 abbrev pub part : ℕ → ℕ → List ℕ → List ℕ
 part offset len store = take len (drop offset store)
 
 -- the act of a kind, with its value and its time if it has them
-abbrev pub act_of : Kind → List ℕ → ℕ → Act
+abbrev pub act_of : CallKind → List ℕ → ℕ → Act
 act_of Put value time = acts.Put value time
 act_of Remove value time = acts.Remove
 act_of Hit value time = acts.Hit value time

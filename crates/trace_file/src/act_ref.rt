@@ -1,7 +1,7 @@
 // What a call of a history did, lent.
 ghost use Rattle.std.specs.Prelude.{◌≡◌, ◌<◌, ◌^◌};
 
-use crate::kind::Kind;
+use crate::call_kind::CallKind;
 
 /// What a call did, with the bytes of its value lent by the history.
 #[derive(Clone, Copy)]
@@ -18,8 +18,8 @@ pub enum ActRef<'a> {
 
 impl<'a> ActRef<'a> {
     ghost use Rattle.trace_file.specs.Calls.{time_of, value_of};
+    ghost use Rattle.trace_file.specs.Kinds.{kind_of};
     ghost use Rattle.trace_file.specs.Lent.{act_shown};
-    ghost use Rattle.trace_file.specs.Stored.{act_of};
 
     /// The bytes of the value, none if the act has no value.
     pub fn value(&self) -> &'a [u8]
@@ -47,14 +47,14 @@ impl<'a> ActRef<'a> {
     }
 
     /// The kind of the act.
-    pub(crate) fn kind(&self) -> Kind
-        ensures { act_of result (value_of (act_shown self.now)) (time_of (act_shown self.now)) ≡ act_shown self.now }
+    pub fn kind(&self) -> CallKind
+        ensures { result ≡ kind_of (act_shown self.now) }
     {
         match self {
-            ActRef::Put(..) => Kind::Put,
-            ActRef::Remove => Kind::Remove,
-            ActRef::Hit(..) => Kind::Hit,
-            ActRef::Miss => Kind::Miss,
+            ActRef::Put(..) => CallKind::Put,
+            ActRef::Remove => CallKind::Remove,
+            ActRef::Hit(..) => CallKind::Hit,
+            ActRef::Miss => CallKind::Miss,
         }
     }
 }

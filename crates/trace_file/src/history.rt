@@ -1,5 +1,5 @@
 // Recorded calls in the order in which they were recorded.
-ghost use Rattle.std.specs.Prelude.{◌≡◌, ◌+◌, ◌-◌, ◌^◌, ◌<◌, ◌≤◌, [], ◌∷◌, ◌++◌, ◌↔◌, All, IsTrue, List, ℕ, Some, length, OnOk, OnErr, slice_get, take, drop};
+ghost use Rattle.std.specs.Prelude.{◌≡◌, ◌+◌, ◌-◌, ◌^◌, ◌<◌, ◌≤◌, [], ◌∷◌, ◌++◌, ◌↔◌, All, IsTrue, List, ℕ, Some, length, OnOk, OnErr, option_map, slice_get, take, drop};
 ghost use Rattle.std.specs.Vec.{vec_capacity};
 ghost use Rattle.trace_file.specs.Stored.{each_ended, each_moved};
 
@@ -125,6 +125,18 @@ impl History {
     {
         let entry = self.entries[position];
         entry.lent(self.store.as_slice())
+    }
+
+    /// The call at a position, lent, or `None` if there are not so many calls.
+    #[tactic(auto, using(std::proofs::lemmas::Option::slice_get_past))]
+    pub fn get(&self, position: usize) -> Option<CallRef<'_>>
+        ensures { slice_get self.now position ≡ option_map call_shown result }
+    {
+        if position < self.len() {
+            Some(self.at(position))
+        } else {
+            None
+        }
     }
 }
 

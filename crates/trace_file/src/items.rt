@@ -5,16 +5,16 @@ ghost use Rattle.record_pages.specs.Bounded.{IsKey, IsValue};
 ghost use Rattle.trace_file.specs.Calls.{IsCall, time_of, value_of};
 ghost use Rattle.trace_file.specs.Given.{Gives, shown};
 ghost use Rattle.trace_file.specs.Lent.{act_shown, call_shown};
-ghost use Rattle.trace_file.specs.Reading.{kind_of, kind_at, key_at, value_at, time_at, act_at, call_at, first_difference, version_at, count_at, header_at, position_at};
+ghost use Rattle.trace_file.specs.Reading.{kind_of_byte, kind_at, key_at, value_at, time_at, act_at, call_at, first_difference, version_at, count_at, header_at, position_at};
 ghost use Rattle.trace_file.specs.Text.{magic};
 ghost use Rattle.trace_file.specs.declared.version.Version.TheVariants.{Timed, Timeless};
 
 use crate::act_ref::ActRef;
+use crate::call_kind::CallKind;
 use crate::call_ref::CallRef;
 use crate::cursor::Cursor;
 use crate::header::Header;
 use crate::item_fault::ItemFault;
-use crate::kind::Kind;
 use crate::trace_fault::TraceFault;
 use crate::version::Version;
 use record_pages::{NEVER, Value};
@@ -29,24 +29,24 @@ const TIMELESS_MAGIC: [u8; 8] = *b"KGTRACE1";
 pub(crate) const MOST_CALLS: u32 = 268_435_456;
 
 /// The kind that a byte stands for.
-fn kind_of(byte: u8) -> Option<Kind>
-    ensures { result ≡ kind_of byte }
+fn kind_of_byte(byte: u8) -> Option<CallKind>
+    ensures { result ≡ kind_of_byte byte }
 {
     match byte {
-        1 => Some(Kind::Put),
-        2 => Some(Kind::Remove),
-        3 => Some(Kind::Hit),
-        4 => Some(Kind::Miss),
+        1 => Some(CallKind::Put),
+        2 => Some(CallKind::Remove),
+        3 => Some(CallKind::Hit),
+        4 => Some(CallKind::Miss),
         _ => None,
     }
 }
 
 #[tactic(auto, unfolding(crate::specs::Reading::kind_at))]
-fn kind(cursor: Cursor<'_>) -> Result<(Kind, Cursor<'_>), ItemFault>
+fn kind(cursor: Cursor<'_>) -> Result<(CallKind, Cursor<'_>), ItemFault>
     ensures { Gives (λ x. (x.0, shown x.1)) result (kind_at (shown cursor.entry)) }
 {
     let (byte, behind) = cursor.byte()?;
-    match kind_of(byte) {
+    match kind_of_byte(byte) {
         Some(kind) => Ok((kind, behind)),
         None => Err(ItemFault::Fault(TraceFault::BadKind { at: cursor.at })),
     }
@@ -92,25 +92,25 @@ fn time(version: Version, meant: u64, cursor: Cursor<'_>) -> Result<(u64, Cursor
 #[tactic(auto, unfolding(crate::specs::Reading::act_at))]
 fn act(
     version: Version,
-    kind: Kind,
+    kind: CallKind,
     cursor: Cursor<'_>,
 ) -> Result<(ActRef<'_>, Cursor<'_>), ItemFault>
     ensures read { Gives (λ x. (act_shown x.0, shown x.1)) result (act_at version kind (shown cursor.entry)) }
     ensures lawful { IfOk result (λ x. IsValue (value_of (act_shown x.0))) }
 {
     match kind {
-        Kind::Put => {
+        CallKind::Put => {
             let (value, behind) = value(cursor)?;
             let (expires, behind) = time(version, NEVER, behind)?;
             Ok((ActRef::Put(value, expires), behind))
         }
-        Kind::Remove => Ok((ActRef::Remove, cursor)),
-        Kind::Hit => {
+        CallKind::Remove => Ok((ActRef::Remove, cursor)),
+        CallKind::Hit => {
             let (value, behind) = value(cursor)?;
             let (moment, behind) = time(version, 0, behind)?;
             Ok((ActRef::Hit(value, moment), behind))
         }
-        Kind::Miss => Ok((ActRef::Miss, cursor)),
+        CallKind::Miss => Ok((ActRef::Miss, cursor)),
     }
 }
 

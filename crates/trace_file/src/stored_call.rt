@@ -5,8 +5,8 @@ ghost use Rattle.trace_file.specs.Lent.{act_shown, call_shown};
 ghost use Rattle.trace_file.specs.Stored.{LiesIn, act_of, call_in, moved_by};
 
 use crate::act_ref::ActRef;
+use crate::call_kind::CallKind;
 use crate::call_ref::CallRef;
-use crate::kind::Kind;
 
 /// A call whose key and value lie in a store of bytes: the key at `offset`, the value after it. It is for those who
 /// keep calls in a store of their own.
@@ -19,7 +19,7 @@ pub struct StoredCall {
     pub(crate) caller: u16,
     pub(crate) value_len: u16,
     pub(crate) key_len: u8,
-    pub(crate) kind: Kind,
+    pub(crate) kind: CallKind,
 }
 
 impl StoredCall {
@@ -79,13 +79,13 @@ impl StoredCall {
 }
 
 /// The act of a kind, with the bytes of its value and its time if it has them.
-fn lent(kind: Kind, value: &[u8], time: u64) -> ActRef<'_>
+fn lent(kind: CallKind, value: &[u8], time: u64) -> ActRef<'_>
     ensures { act_shown result ≡ act_of kind value.now time }
 {
     match kind {
-        Kind::Put => ActRef::Put(value, time),
-        Kind::Remove => ActRef::Remove,
-        Kind::Hit => ActRef::Hit(value, time),
-        Kind::Miss => ActRef::Miss,
+        CallKind::Put => ActRef::Put(value, time),
+        CallKind::Remove => ActRef::Remove,
+        CallKind::Hit => ActRef::Hit(value, time),
+        CallKind::Miss => ActRef::Miss,
     }
 }

@@ -7,11 +7,14 @@ use Rattle.std.proofs.lemmas.List.{length-append, length-drop, length-take-le, t
 use Rattle.std.proofs.lemmas.List.Elements.{recursion_from_All, All-map, All-weaker}
 use Rattle.std.proofs.lemmas.Option.{slice_get-map, slice_get_read}
 use Rattle.record_pages.specs.Bounded.{IsValue}
+use Rattle.trace_file.specs.declared.act.Act.{Act}
+use Rattle.trace_file.specs.declared.act.Act.TheVariants as acts
 use Rattle.trace_file.specs.declared.call.Call.{Call}
 use Rattle.trace_file.specs.declared.stored_call.StoredCall.{StoredCall}
-use Rattle.trace_file.specs.declared.kind.Kind.{Kind}
-use Rattle.trace_file.specs.declared.kind.Kind.TheVariants.{Put, Remove, Hit, Miss}
+use Rattle.trace_file.specs.declared.call_kind.CallKind.{CallKind}
+use Rattle.trace_file.specs.declared.call_kind.CallKind.TheVariants.{Put, Remove, Hit, Miss}
 use Rattle.trace_file.specs.Calls.{IsCall, value_of, time_of}
+use Rattle.trace_file.specs.Kinds.{kind_of}
 use Rattle.trace_file.specs.Stored.{part, act_of, call_in, calls_in, LiesIn}
 
 -- a fact that holds anyhow holds at an error
@@ -41,13 +44,20 @@ by_more store more (e ∷ es) lie = let one = call_in-more store more e lie.0 in
 pub calls_in-more : (store more : List ℕ) (es : List StoredCall) → All (LiesIn (length store)) es → calls_in (store ++ more) es ≡ calls_in store es
 calls_in-more store more es lie = by_more store more es (recursion_from_All (LiesIn (length store)) es lie)
 
-act_value : (kind : Kind) (value : List ℕ) (time : ℕ) → IsValue value → IsValue (value_of (act_of kind value time))
+-- an act is that of its kind, with its value and its time
+pub act_again : (act : Act) → act_of (kind_of act) (value_of act) (time_of act) ≡ act
+act_again (acts.Put value expires) = refl
+act_again acts.Remove = refl
+act_again (acts.Hit value moment) = refl
+act_again acts.Miss = refl
+
+act_value : (kind : CallKind) (value : List ℕ) (time : ℕ) → IsValue value → IsValue (value_of (act_of kind value time))
 act_value Put value time h = h
 act_value Remove value time h = omega arith
 act_value Hit value time h = h
 act_value Miss value time h = omega arith
 
-act_time : (kind : Kind) (value : List ℕ) (time : ℕ) → time < 2 ^ 64 → time_of (act_of kind value time) < 2 ^ 64
+act_time : (kind : CallKind) (value : List ℕ) (time : ℕ) → time < 2 ^ 64 → time_of (act_of kind value time) < 2 ^ 64
 act_time Put value time h = h
 act_time Remove value time h = omega arith
 act_time Hit value time h = h

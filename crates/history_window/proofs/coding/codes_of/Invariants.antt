@@ -1,4 +1,4 @@
-use Rattle.history_window.specs.Numbers.{number_at}
+use Rattle.trace_file.specs.Numbers.{number_at}
 use Rattle.history_window.proofs.CodeLemmas.{CodesSoFar}
 use Rattle.history_window.proofs.coding.codes_of.Given as goal
 

@@ -2,7 +2,8 @@
 mod rows;
 
 use super::scripted::play;
-use item_lane::{CacheItem, CellBuffer, Head};
+use item_lane::{CacheItem, Head, HeadText};
+use record_pages::Value;
 use std::test::Fail;
 
 static STORES: &[u8] = b"
@@ -120,8 +121,8 @@ static CELL: [u8; 19] = [
 
 #[test]
 fn a_cell_has_its_bytes(rt: HostRuntime) -> Result<(), Fail> {
-    let mut cell = CellBuffer::empty();
-    cell.write(&MARKED, b"o", b"k");
+    let head = HeadText::of(&MARKED);
+    let cell = Value::of_parts(rt.alloc(), head.bytes(), b"o", b"k").ok().ok_or("no value")?;
     assert!(rt; cell.bytes() == CELL.as_slice());
     let item = CacheItem::decode(&CELL).ok_or("no cell")?;
     assert!(rt;

@@ -2,12 +2,12 @@
 use Rattle.std.proofs.Common.{◌≡◌, ℕ, cond, Some, None, List, arith}
 use Rattle.std.proofs.lemmas.Grind.{common_steps}
 use Rattle.std.specs.Str.{bytes_eq}
-use Rattle.history_window.specs.declared.history_word.HistoryWord.{HistoryWord}
-use Rattle.history_window.specs.Numbers.{number_at}
-use Rattle.history_window.proofs.NumberLemmas.{keeps_numbers, are_numbers}
-use Rattle.history_window.proofs.coding.number.Goals as goal
+use Rattle.trace_file.specs.declared.lent_word.LentWord.{LentWord}
+use Rattle.trace_file.specs.Numbers.{number_at}
+use Rattle.trace_file.proofs.NumberLemmas.{keeps_numbers, are_numbers}
+use Rattle.trace_file.proofs.numbering.number_word.Goals as goal
 
-lent : List ℕ → HistoryWord
+lent : List ℕ → LentWord
 lent word = record { bytes = record { ref_ptr = (0, 0); now = word } }
 
 pub returns-clause-kept : goal.returns-clause-kept

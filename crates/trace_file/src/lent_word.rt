@@ -9,11 +9,12 @@ use std::hash::{Hash, Hasher};
 
 /// The bytes of a key or a value, lent by a history. They are hashed by one write, and not byte by byte.
 #[derive(Clone, Copy)]
-pub(crate) struct HistoryWord<'a> {
-    pub(crate) bytes: &'a [u8],
+pub struct LentWord<'a> {
+    /// The bytes of the word.
+    pub bytes: &'a [u8],
 }
 
-impl PartialEq for HistoryWord<'_> {
+impl PartialEq for LentWord<'_> {
     ghost eq = { λ a b. bytes_eq a.bytes.now b.bytes.now };
 
     ghost laws = { on_per (λ word. word.bytes.now) (partial_equiv_from_equiv nat_list_eq_equiv) };
@@ -23,11 +24,11 @@ impl PartialEq for HistoryWord<'_> {
     }
 }
 
-impl Eq for HistoryWord<'_> {
+impl Eq for LentWord<'_> {
     ghost laws = { on_equiv (λ word. word.bytes.now) nat_list_eq_equiv };
 }
 
-impl Hash for HistoryWord<'_> {
+impl Hash for LentWord<'_> {
     ghost hash_input = { λ word. word.bytes.now ∷ [] };
 
     ghost respects_eq = { λ a b same. ap (λ bytes. bytes ∷ []) ((bytes_decides a.bytes.now b.bytes.now).0 same) };

@@ -3,7 +3,7 @@ use Rattle.std.proofs.Common.{◌≡◌, ℕ, ◌+◌, Bool, true, false, cond, 
 use Rattle.std.specs.Str.{bytes_eq}
 use Rattle.std.specs.Cmp.Lexicographic.{bytes_decides}
 use Rattle.std.proofs.lemmas.Option.{none-some}
-use Rattle.certificate_finder.specs.Numbers.{AreNumbers, KeepsNumbers}
+use Rattle.trace_file.specs.Numbers.{AreNumbers, KeepsNumbers}
 
 -- the number that a word has after the change: the new one, if it is the new word
 is_new : (b : Bool) (n number : ℕ) (old : Option ℕ) → cond b (Some n) old ≡ Some number → ((b ≡ true) × (n ≡ number)) ⊎ (old ≡ Some number)
@@ -21,6 +21,9 @@ module _ (old new : List ℕ → Option ℕ) (word : List ℕ) (n : ℕ) (fresh 
   pub keeps_numbers : KeepsNumbers old new
   keeps_numbers q number has =
       change q ∙ keeps (bytes_eq word q) n number (old q) has (λ same. ap old (sym (is_word q same)) ∙ fresh)
+
+  pub has_number : new word ≡ Some n
+  has_number = change word ∙ ap (λ b. cond b (Some n) (old word)) ((bytes_decides word word).1 refl)
 
   pub are_numbers : AreNumbers old n → AreNumbers new (n + 1)
   are_numbers known = record {

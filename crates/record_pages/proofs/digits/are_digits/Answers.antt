@@ -1,7 +1,7 @@
 use Rattle.std.proofs.Common.{nat_le, ◌&&◌, rules, tests}
 use Rattle.std.proofs.lemmas.Iterator.{YieldsList-from_slice}
 use Rattle.std.proofs.lemmas.Iterator.Search.{all_from_yields_List}
-use Rattle.item_lane.proofs.change.are_digits.Goals as goal
+use Rattle.record_pages.proofs.digits.are_digits.Goals as goal
 
 pub returns : goal.returns
 returns c =

@@ -3,8 +3,8 @@ use Rattle.std.proofs.Common.{◌≡◌, ◌<◌, ◌≤◌, ◌^◌, ◌*◌, �
 use Rattle.std.proofs.lemmas.Grind.{common_steps, pow_more}
 use Rattle.std.proofs.lemmas.Bool.Decides.{nat_tests}
 use Rattle.std.proofs.lemmas.List.Sums.{AllPass-from_list_all}
-use Rattle.item_lane.specs.Numbers.{are_digits}
-use Rattle.item_lane.proofs.change.value.Goals as goal
+use Rattle.record_pages.specs.Digits.{are_digits}
+use Rattle.record_pages.proofs.digits.digits_value.Goals as goal
 
 in_range : (d : ℕ) → (nat_le 48 d && nat_le d 57) ≡ true → (48 ≤ d) × (d ≤ 57)
 in_range d h = (grind (arith, nat_tests), grind (arith, nat_tests))
