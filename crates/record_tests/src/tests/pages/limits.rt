@@ -17,6 +17,11 @@ fn has_value_fault(alloc: Global, bytes: &[u8], fault: Option<ValueFault>) -> bo
     Value::new(alloc, bytes).err() == fault
 }
 
+/// Whether a value of three parts, of which the last has this many bytes, is refused with this fault, or made if it is none.
+fn has_parts_fault(alloc: Global, back: &[u8], fault: Option<ValueFault>) -> bool {
+    Value::of_parts(alloc, &[0x77; 17], &[0x78; 1000], back).err() == fault
+}
+
 #[test]
 fn keys_and_values_have_their_limits(rt: HostRuntime) {
     let alloc = rt.alloc();
@@ -26,6 +31,8 @@ fn keys_and_values_have_their_limits(rt: HostRuntime) {
             && has_key_fault(alloc, &[0x61; 256], Some(KeyFault::KeyTooLong))
             && has_value_fault(alloc, &[0x78; 2048], None)
             && has_value_fault(alloc, &[0x78; 2049], Some(ValueFault::ValueTooLong))
+            && has_parts_fault(alloc, &[0x79; 1031], None)
+            && has_parts_fault(alloc, &[0x79; 1032], Some(ValueFault::ValueTooLong))
             && Prediction::new(7).is_some()
             && Prediction::new(8).is_none()
     );
