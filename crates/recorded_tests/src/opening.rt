@@ -9,7 +9,7 @@ use rriparoo::Rriparoo;
 use shared_cache::{OpenCacheFault, SharedCache};
 use std::alloc::Global;
 use std::test::Fail;
-use test_devices::{Scripted, Step, is, run_text};
+use test_devices::{Scripted, TextStep, is, run_text};
 
 /// Openings of a lane, a world or a cache over pages of 128 bytes or of 256.
 #[derive(Drop)]
@@ -29,7 +29,7 @@ impl Scripted for Openings {
 
     ghost can_act = { ⊤ };
 
-    fn act(&mut self, alloc: Global, step: &mut Step<'_>) -> Result<(), Fail> {
+    fn act(&mut self, alloc: Global, step: &mut TextStep<'_>) -> Result<(), Fail> {
         let word = step.word();
         let is_narrow = step.small() == 128;
         let asked = Asked {

@@ -1,16 +1,16 @@
 //! What the texts of all parts have alike.
 use klog::Flushed;
 use record_pages::{Answer, MissCause, NEVER, Pushed, Tier};
-use test_devices::Step;
+use test_devices::TextStep;
 use trace_file::ActRef;
 
 /// Takes a number of 16 bits, as that of a caller.
-pub fn caller_of(step: &mut Step<'_>) -> u16 {
+pub fn caller_of(step: &mut TextStep<'_>) -> u16 {
     (step.small() % 65536) as u16
 }
 
 /// Tells what a get gave: the tier and the value of a hit, or why there is none.
-pub fn tell_answer(answer: &Answer, step: &mut Step<'_>) {
+pub fn tell_answer(answer: &Answer, step: &mut TextStep<'_>) {
     match answer {
         Answer::Hit(value, tier) => {
             step.tell(name_of_tier(*tier));
@@ -60,7 +60,7 @@ pub fn name_of_flush(flushed: Flushed) -> &'static [u8] {
 }
 
 /// Tells what a call did: the value of a put, with its expiry if it has one, or the value and the moment of a hit.
-pub fn tell_act(act: ActRef<'_>, step: &mut Step<'_>) {
+pub fn tell_act(act: ActRef<'_>, step: &mut TextStep<'_>) {
     match act {
         ActRef::Put(value, expires) => {
             step.tell(b"put");

@@ -7,14 +7,14 @@ mod asked_device;
 mod blank_device;
 mod made;
 mod stale;
-mod step;
 mod text;
+mod text_step;
 mod without_random;
 
 pub use asked_device::AskedDevice;
 pub use blank_device::BlankDevice;
 pub use made::{key, value};
 pub use stale::StaleDevice;
-pub use step::{MAX_TOLD, Spelled, Step, is};
 pub use text::{Scripted, WrongLine, find_wrong_line, run_line, run_text};
+pub use text_step::{MAX_TOLD, Spelled, TextStep, is};
 pub use without_random::WithoutRandom;

@@ -1,5 +1,5 @@
 // The text of a test, and the loop over its steps.
-use crate::step::Step;
+use crate::text_step::TextStep;
 use std::alloc::Global;
 use std::fmt;
 use std::fmt::{Display, Formatter, Write};
@@ -11,7 +11,7 @@ pub trait Scripted {
     ghost can_act: { Type 0 };
 
     /// Takes the words of a call, makes it, and tells its answer. It fails if memory was refused.
-    fn act(&mut self, alloc: Global, step: &mut Step<'_>) -> Result<(), Fail>
+    fn act(&mut self, alloc: Global, step: &mut TextStep<'_>) -> Result<(), Fail>
         requires { can_act };
 }
 
@@ -20,7 +20,7 @@ pub trait Scripted {
 pub struct WrongLine<'a> {
     /// Its number, from 1.
     pub number: u64,
-    step: Step<'a>,
+    step: TextStep<'a>,
 }
 
 impl Display for WrongLine<'_> {
@@ -78,7 +78,7 @@ pub fn find_wrong_line<'a, S: Scripted>(
     }
     Ok(Some(WrongLine {
         number,
-        step: Step::refused(),
+        step: TextStep::refused(),
     }))
 }
 
@@ -88,14 +88,14 @@ fn find_wrong_step<'a, S: Scripted>(
     scripted: &mut S,
     line: &'a [u8],
     made: &mut u64,
-) -> Result<Option<Step<'a>>, Fail>
+) -> Result<Option<TextStep<'a>>, Fail>
     requires { S.can_act }
 {
     if is_comment(line) {
         return Ok(None);
     }
     for bytes in line.split(|b| *b == b';') {
-        let mut step = Step::new(bytes);
+        let mut step = TextStep::new(bytes);
         if step.has_words() {
             scripted.act(alloc, &mut step)?;
             *made = made.wrapping_add(1);

@@ -7,7 +7,7 @@ use judge_run::{CheckRequest, JudgeRequest, ShowRequest};
 use std::alloc::Global;
 use std::io::{Error, ErrorKind};
 use std::test::Fail;
-use test_devices::{Scripted, Step, is, run_text};
+use test_devices::{Scripted, TextStep, is, run_text};
 use trace_file::FileName;
 
 /// What was reported last, the status of the last ending, and the share of keys of the last line that judges.
@@ -23,7 +23,7 @@ impl Scripted for Asked {
 
     ghost can_act = { ⊤ };
 
-    fn act(&mut self, alloc: Global, step: &mut Step<'_>) -> Result<(), Fail> {
+    fn act(&mut self, alloc: Global, step: &mut TextStep<'_>) -> Result<(), Fail> {
         let word = step.word();
         if is_program(word) {
             return self.take_words(alloc, word, step);
@@ -49,19 +49,29 @@ fn is_program(word: &[u8]) -> bool {
 
 impl Asked {
     /// Takes the words of a command line from the first on, and tells what they ask for.
-    fn take_words(&mut self, alloc: Global, first: &[u8], step: &mut Step<'_>) -> Result<(), Fail> {
+    fn take_words(
+        &mut self,
+        alloc: Global,
+        first: &[u8],
+        step: &mut TextStep<'_>,
+    ) -> Result<(), Fail> {
         let words = words_of(alloc, first, step)?;
         self.parse(alloc, words.as_slice(), step)
     }
 
     /// Parses words, and tells what they ask for.
-    fn parse(&mut self, alloc: Global, words: &[String], step: &mut Step<'_>) -> Result<(), Fail> {
+    fn parse(
+        &mut self,
+        alloc: Global,
+        words: &[String],
+        step: &mut TextStep<'_>,
+    ) -> Result<(), Fail> {
         let line = parse_line(alloc, words);
         self.tell_asked(&line, step)
     }
 
     /// Tells what is asked for if a word is no text.
-    fn take_no_text(&mut self, alloc: Global, step: &mut Step<'_>) -> Result<(), Fail> {
+    fn take_no_text(&mut self, alloc: Global, step: &mut TextStep<'_>) -> Result<(), Fail> {
         let line = Err(no_text(alloc));
         self.tell_asked(&line, step)
     }
@@ -70,7 +80,7 @@ impl Asked {
     fn tell_asked(
         &mut self,
         line: &Result<Line, LineFault>,
-        step: &mut Step<'_>,
+        step: &mut TextStep<'_>,
     ) -> Result<(), Fail> {
         self.said.clear();
         let text = match line {
@@ -84,7 +94,7 @@ impl Asked {
     }
 
     /// Compares what was reported, and what was kept, with what a step says of it.
-    fn look(&mut self, word: &[u8], step: &mut Step<'_>) {
+    fn look(&mut self, word: &[u8], step: &mut TextStep<'_>) {
         if is(word, b"status") {
             step.tell_number(u64::from(self.status));
         } else if is(word, b"usage") {
@@ -101,7 +111,7 @@ impl Asked {
     }
 
     /// Tells what a line asks for.
-    fn tell_line(&mut self, line: &Line, step: &mut Step<'_>) {
+    fn tell_line(&mut self, line: &Line, step: &mut TextStep<'_>) {
         match line {
             Line::Script => step.tell(b"script"),
             Line::Check(request) => tell_check(request, step),
@@ -135,7 +145,7 @@ impl Asked {
 }
 
 /// Tells that words ask for nothing, and gives the text of that.
-fn told_by<'a>(fault: &'a LineFault, step: &mut Step<'_>) -> &'a [u8] {
+fn told_by<'a>(fault: &'a LineFault, step: &mut TextStep<'_>) -> &'a [u8] {
     match fault {
         LineFault::Usage(text) => {
             step.tell(b"refused");
@@ -159,20 +169,20 @@ fn is_usage(said: &[u8]) -> bool {
 }
 
 /// Tells a name if there is one.
-fn tell_named(name: &[u8], file: &Option<FileName>, step: &mut Step<'_>) {
+fn tell_named(name: &[u8], file: &Option<FileName>, step: &mut TextStep<'_>) {
     if let Some(file) = file {
         step.tell_pair(name, file.as_str().as_bytes());
     }
 }
 
 /// Tells a word if it is so.
-pub fn tell_if(is_so: bool, word: &[u8], step: &mut Step<'_>) {
+pub fn tell_if(is_so: bool, word: &[u8], step: &mut TextStep<'_>) {
     if is_so {
         step.tell(word);
     }
 }
 
-fn tell_check(request: &CheckRequest, step: &mut Step<'_>) {
+fn tell_check(request: &CheckRequest, step: &mut TextStep<'_>) {
     step.tell(b"check");
     step.tell(request.file.as_str().as_bytes());
     tell_if(request.explain, b"explain", step);
@@ -180,7 +190,7 @@ fn tell_check(request: &CheckRequest, step: &mut Step<'_>) {
     tell_named(b"picture", &request.picture, step);
 }
 
-fn tell_judge(request: &JudgeRequest, step: &mut Step<'_>) {
+fn tell_judge(request: &JudgeRequest, step: &mut TextStep<'_>) {
     step.tell(b"judge");
     step.tell(request.file.as_str().as_bytes());
     for other in &request.others {
@@ -198,7 +208,7 @@ fn tell_judge(request: &JudgeRequest, step: &mut Step<'_>) {
 }
 
 /// Tells which calls are judged, if not just all, and how many there have to be.
-fn tell_scope(request: &JudgeRequest, step: &mut Step<'_>) {
+fn tell_scope(request: &JudgeRequest, step: &mut TextStep<'_>) {
     if request.at_least != 0 {
         step.tell(b"at-least");
         step.tell_number(request.at_least);
@@ -214,7 +224,7 @@ fn tell_scope(request: &JudgeRequest, step: &mut Step<'_>) {
     }
 }
 
-fn tell_show(request: &ShowRequest, step: &mut Step<'_>) {
+fn tell_show(request: &ShowRequest, step: &mut TextStep<'_>) {
     step.tell(b"show");
     step.tell(request.file.as_str().as_bytes());
     if let Some(key) = &request.key {

@@ -6,14 +6,14 @@ use std::fs;
 use std::io::{Read, Write};
 use std::rt::Files;
 use std::test::Fail;
-use test_devices::{Step, is};
+use test_devices::{TextStep, is};
 
 /// Makes a folder, in place of what was there, or clears one; makes a file, or removes one; and reads, measures and judges one.
 pub fn act_on<R: Files<File = fs::File> + AllocGlobal>(
     rt: &R,
     alloc: Global,
     word: &[u8],
-    step: &mut Step<'_>,
+    step: &mut TextStep<'_>,
 ) -> Result<(), Fail> {
     let path = str::from_utf8(step.word())?;
     if is(word, b"folder") {
@@ -48,7 +48,7 @@ fn read<R: Files<File = fs::File>>(
     alloc: Global,
     word: &[u8],
     path: &str,
-    step: &mut Step<'_>,
+    step: &mut TextStep<'_>,
 ) -> Result<(), Fail> {
     let mut told: Vec<u8> = Vec::new(alloc);
     let mut file = fs::open(rt, path)?;

@@ -14,7 +14,7 @@ use std::test::Fail;
 use std::thread::Threads;
 use std::time::Clock;
 use std::{fs, mem};
-use test_devices::{Scripted, Step, is, run_line};
+use test_devices::{Scripted, TextStep, is, run_line};
 
 /// The words of the load that is run after the line, if there are some, and what the last one ended with and wrote, on a host. Its
 /// status has to be asked for.
@@ -33,7 +33,7 @@ impl<'a, R: AllocGlobal + Files<File = fs::File>> Scripted for Loads<'a, R> {
 
     ghost can_act = { ⊤ };
 
-    fn act(&mut self, alloc: Global, step: &mut Step<'_>) -> Result<(), Fail> {
+    fn act(&mut self, alloc: Global, step: &mut TextStep<'_>) -> Result<(), Fail> {
         let word = step.word();
         if !self.words.is_empty() {
             // It is run after the line, so it is the line's last step.

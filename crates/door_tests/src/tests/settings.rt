@@ -2,7 +2,7 @@
 use super::asked::tell_if;
 use load::{Load, SERVE_SETTINGS, SETTINGS, ServeLoad, Setting};
 use record_pages::Layout;
-use test_devices::Step;
+use test_devices::TextStep;
 use trace_file::FileName;
 
 /// The default of each setting of a run, in their order.
@@ -16,7 +16,7 @@ static SERVE_DEFAULTS: [u32; 21] = [
 ];
 
 /// Tells what the load of a run is.
-pub fn tell_run(load: &Load, step: &mut Step<'_>) {
+pub fn tell_run(load: &Load, step: &mut TextStep<'_>) {
     step.tell(b"run");
     for place in 0..17usize {
         tell_setting(
@@ -31,7 +31,7 @@ pub fn tell_run(load: &Load, step: &mut Step<'_>) {
 }
 
 /// Tells what the load of a cache that serves is.
-pub fn tell_serve(load: &ServeLoad, step: &mut Step<'_>) {
+pub fn tell_serve(load: &ServeLoad, step: &mut TextStep<'_>) {
     step.tell(b"serve");
     for place in 0..21usize {
         tell_setting(
@@ -49,21 +49,21 @@ pub fn tell_serve(load: &ServeLoad, step: &mut Step<'_>) {
 }
 
 /// Tells a setting that is not what it is if none is given.
-fn tell_setting(setting: Setting, number: u32, default: u32, step: &mut Step<'_>) {
+fn tell_setting(setting: Setting, number: u32, default: u32, step: &mut TextStep<'_>) {
     if number != default {
         step.tell(setting.name().as_bytes());
         step.tell_number(u64::from(number));
     }
 }
 
-fn tell_size(name: &[u8], size: Option<u64>, step: &mut Step<'_>) {
+fn tell_size(name: &[u8], size: Option<u64>, step: &mut TextStep<'_>) {
     if let Some(size) = size {
         step.tell(name);
         step.tell_number(size);
     }
 }
 
-fn tell_folder(folder: &Option<FileName>, step: &mut Step<'_>) {
+fn tell_folder(folder: &Option<FileName>, step: &mut TextStep<'_>) {
     if let Some(folder) = folder {
         step.tell_pair(b"device", folder.as_str().as_bytes());
     }

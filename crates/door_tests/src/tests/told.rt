@@ -1,5 +1,5 @@
 //! The numbers that a load tells.
-use test_devices::Step;
+use test_devices::TextStep;
 
 // The number of a report's line with this name.
 fn number_of(out: &[u8], name: &[u8]) -> Option<u64> {
@@ -14,7 +14,7 @@ fn number_of(out: &[u8], name: &[u8]) -> Option<u64> {
 }
 
 /// Tells whether copies answered, if of so many hits on flash that were read there one had its object brought back.
-pub fn tell_brought(out: &[u8], step: &mut Step<'_>) {
+pub fn tell_brought(out: &[u8], step: &mut TextStep<'_>) {
     match has_copies(out, step.number()) {
         Some(true) => step.tell(b"copies"),
         Some(false) => step.tell(b"no-copies"),

@@ -2,10 +2,10 @@
 use command_line::Ending;
 use std::alloc::Global;
 use std::test::Fail;
-use test_devices::{Spelled, Step, is};
+use test_devices::{Spelled, TextStep, is};
 
 /// Takes the words of a command line from the first on, up to `->`. In a word `~` is a blank, and alone it is a word of no byte.
-pub fn words_of(alloc: Global, first: &[u8], step: &mut Step<'_>) -> Result<Vec<String>, Fail> {
+pub fn words_of(alloc: Global, first: &[u8], step: &mut TextStep<'_>) -> Result<Vec<String>, Fail> {
     let mut words = Vec::new(alloc);
     let mut word = first;
     for _ in 0..64usize {
@@ -27,7 +27,7 @@ fn spelled(alloc: Global, word: &[u8]) -> Result<String, Fail> {
 }
 
 // Takes the words that are left, as a text: `|` is a line feed, `^` a semicolon and `~` a blank.
-fn text_of(step: &mut Step<'_>) -> Spelled {
+fn text_of(step: &mut TextStep<'_>) -> Spelled {
     let mut text = Spelled::new();
     for place in 0..512usize {
         let word = step.word();
@@ -62,7 +62,7 @@ fn spelled_byte(byte: u8) -> u8 {
 
 /// Compares what was said with the text that is left of a step, by the step's word. It tells what was said if that is not, does not begin,
 /// end or lack, or has not the text. No text is only what nothing `is`.
-pub fn compare(said: &[u8], word: &[u8], step: &mut Step<'_>) {
+pub fn compare(said: &[u8], word: &[u8], step: &mut TextStep<'_>) {
     let text = text_of(step);
     if !is_so(
         str::from_utf8(said).unwrap_or("no text"),
@@ -101,7 +101,7 @@ static ENDINGS: [Ending; 7] = [
 ];
 
 /// Takes the words of an ending. If they are none the step is bad.
-pub fn ending_of(step: &mut Step<'_>) -> Ending {
+pub fn ending_of(step: &mut TextStep<'_>) -> Ending {
     let name = text_of(step);
     for ending in &ENDINGS {
         if name_of_ending(*ending) == name.as_slice() {

@@ -7,7 +7,7 @@ use figures::Form;
 use judge_run::{Detail, JudgeEnd, Scope, TellFault};
 use std::alloc::{AllocError, Global};
 use std::test::Fail;
-use test_devices::{Scripted, Step, find_wrong_line, is};
+use test_devices::{Scripted, TextStep, find_wrong_line, is};
 
 /// What steps are given, what they have to report, and what is asked of those to come.
 #[derive(Drop)]
@@ -25,7 +25,7 @@ impl Scripted for Case<'_> {
 
     ghost can_act = { ⊤ };
 
-    fn act(&mut self, alloc: Global, step: &mut Step<'_>) -> Result<(), Fail> {
+    fn act(&mut self, alloc: Global, step: &mut TextStep<'_>) -> Result<(), Fail> {
         let word = step.word();
         if self.asks(word, step) || self.gives(alloc, word, step)? {
             return Ok(());
@@ -41,7 +41,7 @@ impl Scripted for Case<'_> {
 
 impl Case<'_> {
     /// Asks something of the steps to come, and says whether the word is one of that.
-    fn asks(&mut self, word: &[u8], step: &mut Step<'_>) -> bool {
+    fn asks(&mut self, word: &[u8], step: &mut TextStep<'_>) -> bool {
         if is(word, b"json") {
             self.form = Form::Json;
         } else if is(word, b"explain") {
@@ -69,7 +69,7 @@ impl Case<'_> {
         &mut self,
         alloc: Global,
         word: &[u8],
-        step: &mut Step<'_>,
+        step: &mut TextStep<'_>,
     ) -> Result<bool, AllocError> {
         if is(word, b"fill") {
             fill(&mut self.given, step.word(), step.number())?;
@@ -94,7 +94,7 @@ impl Case<'_> {
         &self,
         alloc: Global,
         word: &[u8],
-        step: &mut Step<'_>,
+        step: &mut TextStep<'_>,
         told: &mut Vec<u8>,
     ) -> Result<(), AllocError> {
         let given = self.given.as_slice();
@@ -136,7 +136,7 @@ impl Case<'_> {
         &self,
         alloc: Global,
         checks: bool,
-        step: &mut Step<'_>,
+        step: &mut TextStep<'_>,
         told: &mut Vec<u8>,
     ) -> Result<(), AllocError> {
         let mut left = self.given.as_slice();
@@ -151,7 +151,10 @@ impl Case<'_> {
 }
 
 /// Tells how a program ends.
-fn tell_status(end: Result<JudgeEnd, TellFault>, step: &mut Step<'_>) -> Result<(), AllocError> {
+fn tell_status(
+    end: Result<JudgeEnd, TellFault>,
+    step: &mut TextStep<'_>,
+) -> Result<(), AllocError> {
     match end {
         Ok(end) => {
             step.tell(name_of(end));
@@ -170,7 +173,11 @@ fn fill(given: &mut Vec<u8>, piece: &[u8], count: u64) -> Result<(), AllocError>
 }
 
 /// Gives a line of the words that are left after a number, so many times.
-fn fill_line(alloc: Global, given: &mut Vec<u8>, step: &mut Step<'_>) -> Result<(), AllocError> {
+fn fill_line(
+    alloc: Global,
+    given: &mut Vec<u8>,
+    step: &mut TextStep<'_>,
+) -> Result<(), AllocError> {
     let count = step.number();
     let mut line: Vec<u8> = Vec::new(alloc);
     push_line(&mut line, step)?;
@@ -178,7 +185,7 @@ fn fill_line(alloc: Global, given: &mut Vec<u8>, step: &mut Step<'_>) -> Result<
 }
 
 /// Gives a line of the words that are left.
-pub fn push_line(given: &mut Vec<u8>, step: &mut Step<'_>) -> Result<(), AllocError> {
+pub fn push_line(given: &mut Vec<u8>, step: &mut TextStep<'_>) -> Result<(), AllocError> {
     for place in 0..8u32 {
         let word = step.word();
         if word.is_empty() {
@@ -216,7 +223,7 @@ fn name_of(end: JudgeEnd) -> &'static [u8] {
 }
 
 /// Tells what comes of judging a stream.
-fn tell_end(end: End, step: &mut Step<'_>) {
+fn tell_end(end: End, step: &mut TextStep<'_>) {
     match end {
         End::Accepted => step.tell(b"accepted"),
         End::Rejected => step.tell(b"rejected"),

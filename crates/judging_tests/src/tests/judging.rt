@@ -9,7 +9,7 @@ use judge_run::{
 use std::alloc::{AllocError, Global};
 use std::hash::{BuildHasherDefault, FoldHasher};
 use std::io::{Read, Write};
-use test_devices::Step;
+use test_devices::TextStep;
 use trace_file::{TraceFault, write_trace};
 
 /// Judges what a reader gives by a table that hashes by a known seed. It ends so if an accepted history has to have so many calls.
@@ -158,7 +158,7 @@ fn write_accepted(outcome: &Outcome, bytes: &mut Vec<u8>) -> bool {
 }
 
 /// Turns the two places of the certificate of a trace of two calls.
-pub fn turn(trace: &mut Vec<u8>, step: &mut Step<'_>) {
+pub fn turn(trace: &mut Vec<u8>, step: &mut TextStep<'_>) {
     let len = trace.len();
     if len < 8 {
         step.refuse();

@@ -14,7 +14,7 @@ use std::alloc::{AllocError, Global};
 use std::hash::{BuildHasherDefault, FoldHasher};
 use std::mem::replace;
 use std::test::Fail;
-use test_devices::{Scripted, Step, is, run_text};
+use test_devices::{Scripted, TextStep, is, run_text};
 use trace_file::{Act, ActRef, Call, CallRef, Certificate, History};
 
 /// The history that the steps so far have made.
@@ -28,7 +28,7 @@ impl Scripted for Made {
 
     ghost can_act = { ⊤ };
 
-    fn act(&mut self, alloc: Global, step: &mut Step<'_>) -> Result<(), Fail> {
+    fn act(&mut self, alloc: Global, step: &mut TextStep<'_>) -> Result<(), Fail> {
         match step.number_if_any() {
             Some(caller) => {
                 let caller = u16::try_from(caller).unwrap_or(u16::MAX);
@@ -44,7 +44,7 @@ impl Scripted for Made {
 
 impl Made {
     /// Begins another history, or changes the one at hand, or asks for what is found for it.
-    fn change(&mut self, alloc: Global, word: &[u8], step: &mut Step<'_>) -> Result<(), Fail> {
+    fn change(&mut self, alloc: Global, word: &[u8], step: &mut TextStep<'_>) -> Result<(), Fail> {
         if is(word, b"new") {
             self.history = History::new(alloc);
         } else if is(word, b"widen") {
@@ -65,7 +65,7 @@ fn ask(
     alloc: Global,
     history: &History,
     word: &[u8],
-    step: &mut Step<'_>,
+    step: &mut TextStep<'_>,
 ) -> Result<(), AllocError> {
     if is(word, b"find") || is(word, b"find-at") {
         tell_found(alloc, history, is(word, b"find-at"), step)
@@ -84,7 +84,7 @@ fn record(
     alloc: Global,
     history: &mut History,
     caller: u16,
-    step: &mut Step<'_>,
+    step: &mut TextStep<'_>,
 ) -> Result<(), Fail> {
     let start = step.number();
     let end = step.number();
@@ -102,7 +102,7 @@ fn record(
 }
 
 /// Takes the value of a call, with the expiry of a put, which else never comes, or the moment of a hit, which else is 0.
-fn act_of(alloc: Global, word: &[u8], step: &mut Step<'_>) -> Result<Act, Fail> {
+fn act_of(alloc: Global, word: &[u8], step: &mut TextStep<'_>) -> Result<Act, Fail> {
     if is(word, b"put") {
         let value = step.value(alloc)?;
         let expires = step.number_if_any().unwrap_or(NEVER);
@@ -147,7 +147,11 @@ fn append(history: &mut History, round: &History, later: u64) -> Result<(), Allo
 }
 
 /// Warms a history, and tells the hits whose values are taken as there from the start.
-fn warm_all(alloc: Global, history: &mut History, step: &mut Step<'_>) -> Result<(), AllocError> {
+fn warm_all(
+    alloc: Global,
+    history: &mut History,
+    step: &mut TextStep<'_>,
+) -> Result<(), AllocError> {
     let cold = replace(history, History::new(alloc));
     let warmed = warm(alloc, cold)?;
     tell_numbers(warmed.hits.as_slice(), step);
@@ -156,7 +160,7 @@ fn warm_all(alloc: Global, history: &mut History, step: &mut Step<'_>) -> Result
 }
 
 /// Tells how many calls there are, or one of them.
-fn tell_of(history: &History, word: &[u8], step: &mut Step<'_>) {
+fn tell_of(history: &History, word: &[u8], step: &mut TextStep<'_>) {
     if is(word, b"count") {
         step.tell_number(history.len() as u64);
         return;
@@ -170,7 +174,7 @@ fn tell_of(history: &History, word: &[u8], step: &mut Step<'_>) {
 }
 
 /// Tells a call that has a value.
-fn tell_call(call: &CallRef<'_>, step: &mut Step<'_>) {
+fn tell_call(call: &CallRef<'_>, step: &mut TextStep<'_>) {
     step.tell_number(u64::from(call.caller));
     step.tell_number(call.start);
     step.tell_number(call.end);
@@ -191,7 +195,7 @@ fn kind_of(act: &ActRef<'_>) -> &'static [u8] {
 }
 
 /// Tells numbers.
-fn tell_numbers(numbers: &[u32], step: &mut Step<'_>) {
+fn tell_numbers(numbers: &[u32], step: &mut TextStep<'_>) {
     for number in numbers {
         step.tell_number(u64::from(*number));
     }
@@ -202,7 +206,7 @@ fn tell_found(
     alloc: Global,
     history: &History,
     at: bool,
-    step: &mut Step<'_>,
+    step: &mut TextStep<'_>,
 ) -> Result<(), AllocError> {
     match find(alloc, history)? {
         Found::Accepted(certificate) => tell_verdict(alloc, history, &certificate, step),
@@ -222,7 +226,7 @@ fn tell_verdict(
     alloc: Global,
     history: &History,
     certificate: &Certificate,
-    step: &mut Step<'_>,
+    step: &mut TextStep<'_>,
 ) -> Result<(), AllocError> {
     match check(alloc, history, certificate)? {
         Verdict::Accepted => step.tell(b"accepted"),
@@ -232,7 +236,7 @@ fn tell_verdict(
 }
 
 /// Tells the kind of a reason.
-fn tell_witness(witness: &Witness, at: bool, step: &mut Step<'_>) {
+fn tell_witness(witness: &Witness, at: bool, step: &mut TextStep<'_>) {
     match witness {
         Witness::Interval(call) => tell_kind(b"interval", &[*call], at, step),
         Witness::Hit(hit, _) => tell_kind(b"hit", &[*hit], at, step),
@@ -244,7 +248,7 @@ fn tell_witness(witness: &Witness, at: bool, step: &mut Step<'_>) {
 }
 
 /// Tells what was found, and of which calls, if that is asked.
-fn tell_kind(kind: &[u8], calls: &[u32], at: bool, step: &mut Step<'_>) {
+fn tell_kind(kind: &[u8], calls: &[u32], at: bool, step: &mut TextStep<'_>) {
     step.tell(kind);
     if at {
         tell_numbers(calls, step);
@@ -253,7 +257,7 @@ fn tell_kind(kind: &[u8], calls: &[u32], at: bool, step: &mut Step<'_>) {
 
 /// Tells that a hit is unread, and its position and for each put that it can have read that put with the write that it would be
 /// crossed with, if that is asked.
-fn tell_unread(unread: &UnreadHit, at: bool, step: &mut Step<'_>) {
+fn tell_unread(unread: &UnreadHit, at: bool, step: &mut TextStep<'_>) {
     tell_kind(b"unread", &[unread.hit], at, step);
     if at {
         for writes in &unread.reads {
@@ -267,7 +271,7 @@ fn tell_faults(
     alloc: Global,
     history: &History,
     puts: bool,
-    step: &mut Step<'_>,
+    step: &mut TextStep<'_>,
 ) -> Result<(), AllocError> {
     let most = if puts {
         step.number() as usize
@@ -284,7 +288,7 @@ fn tell_faults(
 }
 
 /// Tells all that is wrong with a history, by positions.
-fn tell_all(faults: &Faults, step: &mut Step<'_>) {
+fn tell_all(faults: &Faults, step: &mut TextStep<'_>) {
     step.tell(b"reversed");
     tell_numbers(faults.reversed.as_slice(), step);
     step.tell(b"hits");
@@ -302,14 +306,14 @@ fn tell_all(faults: &Faults, step: &mut Step<'_>) {
 }
 
 /// Tells wrong hits.
-fn tell_hits(hits: &[WrongHit], step: &mut Step<'_>) {
+fn tell_hits(hits: &[WrongHit], step: &mut TextStep<'_>) {
     for wrong in hits {
         tell_hit(wrong, step);
     }
 }
 
 /// Tells a wrong hit, its puts, each with what excludes it, and how late it is, if that is known.
-fn tell_hit(wrong: &WrongHit, step: &mut Step<'_>) {
+fn tell_hit(wrong: &WrongHit, step: &mut TextStep<'_>) {
     step.tell(b"hit");
     step.tell_number(u64::from(wrong.hit));
     for put in &wrong.puts {
@@ -322,7 +326,7 @@ fn tell_hit(wrong: &WrongHit, step: &mut Step<'_>) {
 }
 
 /// Tells a put, and what excludes it.
-fn tell_put(excluded: &Excluded, step: &mut Step<'_>) {
+fn tell_put(excluded: &Excluded, step: &mut TextStep<'_>) {
     step.tell(b"put");
     step.tell_number(u64::from(excluded.put));
     match excluded.why {
@@ -337,7 +341,11 @@ fn tell_put(excluded: &Excluded, step: &mut Step<'_>) {
 
 /// Tells which calls stay in the window at a stamp, and which of all are left without settled hits, each taken to end no earlier
 /// than it starts.
-fn tell_forgotten(alloc: Global, history: &History, step: &mut Step<'_>) -> Result<(), AllocError> {
+fn tell_forgotten(
+    alloc: Global,
+    history: &History,
+    step: &mut TextStep<'_>,
+) -> Result<(), AllocError> {
     let known: BuildHasherDefault<FoldHasher> = BuildHasherDefault::new();
     let bound = step.number();
     let history = in_time(alloc, history)?;

@@ -5,7 +5,7 @@ use history_text::{
 use std::alloc::{AllocError, Global};
 use std::hash::{BuildHasherDefault, FoldHasher};
 use std::io::Read;
-use test_devices::Step;
+use test_devices::TextStep;
 use trace_file::History;
 
 /// What came of reading a text: how many calls and callers it has, how many lines were passed over, and the line of each call.
@@ -55,7 +55,7 @@ pub fn tell_came(
     alloc: Global,
     reading: Reading,
     mut text: &[u8],
-    step: &mut Step<'_>,
+    step: &mut TextStep<'_>,
     told: &mut Vec<u8>,
 ) -> Result<(), AllocError> {
     match came_of(alloc, reading, &mut text) {
@@ -71,7 +71,7 @@ pub fn tell_came(
 }
 
 /// Tells a text that was read.
-fn tell_read(came: &Came, step: &mut Step<'_>) {
+fn tell_read(came: &Came, step: &mut TextStep<'_>) {
     step.tell_number(came.calls as u64);
     step.tell_number(came.callers as u64);
     step.tell_number(came.skipped);
@@ -118,7 +118,7 @@ fn written(
 }
 
 /// Takes the number of a caller of a text, and tells how many there are and the name of this one.
-pub fn named(alloc: Global, text: &[u8], step: &mut Step<'_>) -> Result<(), AllocError> {
+pub fn named(alloc: Global, text: &[u8], step: &mut TextStep<'_>) -> Result<(), AllocError> {
     let Ok(text) = read(alloc, text) else {
         return Err(AllocError);
     };
@@ -135,7 +135,7 @@ pub fn named(alloc: Global, text: &[u8], step: &mut Step<'_>) -> Result<(), Allo
 pub fn key_told(
     alloc: Global,
     word: &[u8],
-    step: &mut Step<'_>,
+    step: &mut TextStep<'_>,
     told: &mut Vec<u8>,
 ) -> Result<(), AllocError> {
     match key_bytes(alloc, word) {

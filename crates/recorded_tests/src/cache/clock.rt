@@ -6,7 +6,7 @@ use std::alloc::Global;
 use std::sync::Wait;
 use std::test::Fail;
 use std::thread::{Threads, join};
-use test_devices::{Scripted, Step, is, run_text};
+use test_devices::{Scripted, TextStep, is, run_text};
 
 /// A seat and its clock.
 #[derive(Drop)]
@@ -21,7 +21,7 @@ impl<'a> Scripted for Seated<'a> {
 
     ghost can_act = { ⊤ };
 
-    fn act(&mut self, _alloc: Global, step: &mut Step<'_>) -> Result<(), Fail> {
+    fn act(&mut self, _alloc: Global, step: &mut TextStep<'_>) -> Result<(), Fail> {
         let word = step.word();
         Ok(take(self.clock, &mut self.seat, word, step))
     }
@@ -39,7 +39,7 @@ impl<'a> Scripted for Two<'a> {
 
     ghost can_act = { ⊤ };
 
-    fn act(&mut self, alloc: Global, step: &mut Step<'_>) -> Result<(), Fail> {
+    fn act(&mut self, alloc: Global, step: &mut TextStep<'_>) -> Result<(), Fail> {
         if is(step.word(), b"first") {
             return self.first.act(alloc, step);
         }
@@ -48,7 +48,7 @@ impl<'a> Scripted for Two<'a> {
 }
 
 // Has a seat take a step: draw a stamp, observe one, or be told of one. Or tells the stamp that it has seen.
-fn take(clock: &Clock, seat: &mut ClockSeat, word: &[u8], step: &mut Step<'_>)
+fn take(clock: &Clock, seat: &mut ClockSeat, word: &[u8], step: &mut TextStep<'_>)
     requires { seat.old.clock ≡ clock.now }
     ensures { seat.new.clock ≡ clock.now }
 {

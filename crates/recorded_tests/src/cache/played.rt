@@ -12,7 +12,7 @@ use std::io::Eprint;
 use std::sync::{Arc, Wait};
 use std::test::Fail;
 use std::thread::{Threads, join};
-use test_devices::{Scripted, Step, is, run_text};
+use test_devices::{Scripted, TextStep, is, run_text};
 use trace_file::History;
 
 /// A cache that is open, its passes, and the lane of the rounds.
@@ -151,7 +151,7 @@ impl<'a, R: Wait> Scripted for Table<'a, R> {
 
     ghost can_act = { ⊤ };
 
-    fn act(&mut self, alloc: Global, step: &mut Step<'_>) -> Result<(), Fail> {
+    fn act(&mut self, alloc: Global, step: &mut TextStep<'_>) -> Result<(), Fail> {
         let word = step.word();
         if is(word, b"config") {
             return self.open(alloc, step);
@@ -187,7 +187,7 @@ impl Scripted for Left {
 
     ghost can_act = { ⊤ };
 
-    fn act(&mut self, alloc: Global, step: &mut Step<'_>) -> Result<(), Fail> {
+    fn act(&mut self, alloc: Global, step: &mut TextStep<'_>) -> Result<(), Fail> {
         let word = step.word();
         if is(word, b"ended") {
             return self.look_at_next(step);
@@ -202,7 +202,7 @@ impl Scripted for Left {
 
 impl<'a, R> Table<'a, R> {
     // Says what the next cache is made of, or which lane its rounds are of.
-    fn set_up(&mut self, word: &[u8], step: &mut Step<'_>) {
+    fn set_up(&mut self, word: &[u8], step: &mut TextStep<'_>) {
         if is(word, b"lane") {
             self.lane = step.small();
         } else if is(word, b"hold-reads") {
@@ -221,7 +221,7 @@ impl<'a, R> Table<'a, R> {
     }
 
     // Opens a cache of a configuration.
-    fn open(&mut self, alloc: Global, step: &mut Step<'_>) -> Result<(), Fail> {
+    fn open(&mut self, alloc: Global, step: &mut TextStep<'_>) -> Result<(), Fail> {
         self.setup.config = step.config();
         self.shared = Some(open_shared(alloc, &self.setup, &self.gate, self.lane)?);
         self.setup = PLAIN;
@@ -261,7 +261,7 @@ impl<'a, R> Table<'a, R> {
 
 impl Left {
     // Tells how the next cache ended, and looks at what is left of it. It fails if memory was refused.
-    fn look_at_next(&mut self, step: &mut Step<'_>) -> Result<(), Fail> {
+    fn look_at_next(&mut self, step: &mut TextStep<'_>) -> Result<(), Fail> {
         match self.ended.pop() {
             Some(Ok(left)) => {
                 self.left = Some(left);
@@ -279,7 +279,7 @@ impl Left {
 }
 
 // Tells of what is left of a cache.
-fn look(alloc: Global, left: &Finished<TestDevice>, word: &[u8], step: &mut Step<'_>) {
+fn look(alloc: Global, left: &Finished<TestDevice>, word: &[u8], step: &mut TextStep<'_>) {
     if is(word, b"calls") {
         step.tell_number(left.history.len() as u64);
     } else if is(word, b"verdict") {
@@ -337,7 +337,7 @@ fn call_first<R: Wait>(
     alloc: Global,
     shared: &mut Shared,
     word: &[u8],
-    step: &mut Step<'_>,
+    step: &mut TextStep<'_>,
 ) -> Result<(), Fail> {
     call(
         rt,
@@ -514,7 +514,7 @@ fn in_threads<R: Threads + Wait + Sync + Eprint>(
     )
 }
 
-fn tell_fault(fault: FinishFault, step: &mut Step<'_>) {
+fn tell_fault(fault: FinishFault, step: &mut TextStep<'_>) {
     match fault {
         FinishFault::MissingPass { caller } => {
             step.tell(b"missing");
@@ -535,7 +535,7 @@ fn tell_fault(fault: FinishFault, step: &mut Step<'_>) {
 }
 
 // Tells what the checker says of what is left of a cache.
-fn tell_verdict(alloc: Global, left: &Finished<TestDevice>, step: &mut Step<'_>) {
+fn tell_verdict(alloc: Global, left: &Finished<TestDevice>, step: &mut TextStep<'_>) {
     match check(alloc, &left.history, &left.certificate) {
         Ok(Verdict::Accepted) => step.tell(b"accepted"),
         Ok(Verdict::Rejected(Fault::WrongHit { place })) => {
@@ -548,7 +548,7 @@ fn tell_verdict(alloc: Global, left: &Finished<TestDevice>, step: &mut Step<'_>)
 }
 
 // Takes the number of a lane, and tells the number of its device, and how many of its pages of the log and of sets were written.
-fn tell_device(devices: &[TestDevice], step: &mut Step<'_>) {
+fn tell_device(devices: &[TestDevice], step: &mut TextStep<'_>) {
     match devices.get(step.small() as usize) {
         Some(device) => {
             step.tell_number(u64::from(device.number));

@@ -10,7 +10,7 @@ use std::io::Eprint;
 use std::process::Termination;
 use std::sync::Wait;
 use std::test::Fail;
-use test_devices::{Scripted, Step, is, key, run_text, value};
+use test_devices::{Scripted, TextStep, is, key, run_text, value};
 
 // The moment of each get.
 const MOMENT: u64 = 5;
@@ -31,7 +31,7 @@ impl<'a, R: Wait> Scripted for Caller<'a, R> {
 
     ghost can_act = { ⊤ };
 
-    fn act(&mut self, alloc: Global, step: &mut Step<'_>) -> Result<(), Fail> {
+    fn act(&mut self, alloc: Global, step: &mut TextStep<'_>) -> Result<(), Fail> {
         let word = step.word();
         call(
             self.rt,
@@ -97,7 +97,7 @@ pub fn call<R: Wait>(
     pass: &mut Pass,
     lane: u32,
     word: &[u8],
-    step: &mut Step<'_>,
+    step: &mut TextStep<'_>,
 ) -> Result<(), Fail>
     requires clock { pass.old.sight.clock ≡ cache.now.clock }
     requires lane { lane < cache.now.layout.lanes }
@@ -125,7 +125,7 @@ pub fn call<R: Wait>(
 }
 
 // Tells a pass of a stamp.
-fn meet(pass: &mut Pass, step: &mut Step<'_>)
+fn meet(pass: &mut Pass, step: &mut TextStep<'_>)
     ensures { pass.new.sight.clock ≡ pass.old.sight.clock }
 {
     if pass.meet(step.number()).is_err() {
@@ -149,7 +149,7 @@ fn put<R: Wait>(
     cache: &Cache,
     pass: &mut Pass,
     word: &[u8],
-    step: &mut Step<'_>,
+    step: &mut TextStep<'_>,
 ) -> Result<(), Fail>
     requires { pass.old.sight.clock ≡ cache.now.clock }
     ensures { pass.new.sight.clock ≡ cache.now.clock }
@@ -193,7 +193,7 @@ fn put_once<R: Wait>(
     Ok(cache.put(rt, pass, key, value, asked.low, asked.expires))
 }
 
-fn tell_stored(stored: Result<Pushed, CallFault>, step: &mut Step<'_>) {
+fn tell_stored(stored: Result<Pushed, CallFault>, step: &mut TextStep<'_>) {
     step.tell(match stored {
         Ok(pushed) => name_of_pushed(pushed),
         Err(fault) => name_of_fault(&fault),
@@ -206,7 +206,7 @@ fn get<R: Wait>(
     alloc: Global,
     cache: &Cache,
     pass: &mut Pass,
-    step: &mut Step<'_>,
+    step: &mut TextStep<'_>,
 ) -> Result<(), Fail>
     requires { pass.old.sight.clock ≡ cache.now.clock }
     ensures { pass.new.sight.clock ≡ cache.now.clock }
@@ -218,7 +218,7 @@ fn get<R: Wait>(
     }
 }
 
-fn tell_got(answer: Result<Answer, CallFault>, step: &mut Step<'_>) {
+fn tell_got(answer: Result<Answer, CallFault>, step: &mut TextStep<'_>) {
     match answer {
         Ok(answer) => tell_answer(&answer, step),
         Err(fault) => step.tell(name_of_fault(&fault)),
@@ -231,7 +231,7 @@ fn remove<R: Wait>(
     alloc: Global,
     cache: &Cache,
     pass: &mut Pass,
-    step: &mut Step<'_>,
+    step: &mut TextStep<'_>,
 ) -> Result<(), Fail>
     requires { pass.old.sight.clock ≡ cache.now.clock }
     ensures { pass.new.sight.clock ≡ cache.now.clock }
@@ -243,7 +243,7 @@ fn remove<R: Wait>(
     }
 }
 
-fn tell_removed(removed: Result<(), CallFault>, step: &mut Step<'_>) {
+fn tell_removed(removed: Result<(), CallFault>, step: &mut TextStep<'_>) {
     if let Err(fault) = removed {
         step.tell(name_of_fault(&fault));
     }
@@ -259,7 +259,7 @@ fn name_of_fault(fault: &CallFault) -> &'static [u8] {
 }
 
 // Takes a step of flushing the lane, or moves in it; a move that is refused is tried once more, unless it is to be made once.
-fn turn<R: Wait>(rt: &R, cache: &Cache, lane: u32, word: &[u8], step: &mut Step<'_>)
+fn turn<R: Wait>(rt: &R, cache: &Cache, lane: u32, word: &[u8], step: &mut TextStep<'_>)
     requires { lane < cache.now.layout.lanes }
 {
     if is(word, b"flush") {

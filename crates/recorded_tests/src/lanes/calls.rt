@@ -13,7 +13,7 @@ use rriparoo::Rriparoo;
 use set_hash::place;
 use std::alloc::{AllocError, Global};
 use std::test::Fail;
-use test_devices::{Scripted, Spelled, Step, is, key, run_text, value};
+use test_devices::{Scripted, Spelled, TextStep, is, key, run_text, value};
 use trace_file::{ActRef, History};
 
 /// A lane over a device that refuses calls.

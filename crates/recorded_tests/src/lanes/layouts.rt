@@ -8,7 +8,7 @@ use history_recorder::{Dones, lay_out};
 use record_pages::{Key, NEVER, Value};
 use std::alloc::Global;
 use std::test::Fail;
-use test_devices::{Scripted, Step, is, run_text};
+use test_devices::{Scripted, TextStep, is, run_text};
 use trace_file::{Act, ActRef, Call, CallRef, Certificate, History};
 
 /// A put of a key with itself as value, in a lane.
@@ -37,7 +37,7 @@ impl Scripted for Layouts {
 
     ghost can_act = { ⊤ };
 
-    fn act(&mut self, alloc: Global, step: &mut Step<'_>) -> Result<(), Fail> {
+    fn act(&mut self, alloc: Global, step: &mut TextStep<'_>) -> Result<(), Fail> {
         let word = step.word();
         let asked = asked_of(alloc, step)?;
         if is(word, b"lay") {
@@ -54,7 +54,7 @@ impl Scripted for Layouts {
 }
 
 // Takes puts up to the word `gives`, each by its key, start, point and end; the word `lane` stands before those of a lane.
-fn asked_of<'a>(alloc: Global, step: &mut Step<'a>) -> Result<Asked<'a>, Fail> {
+fn asked_of<'a>(alloc: Global, step: &mut TextStep<'a>) -> Result<Asked<'a>, Fail> {
     let mut lanes = 0u32;
     let mut puts = Vec::new(alloc);
     for _ in 0..32usize {
@@ -142,7 +142,7 @@ fn lanes_of(alloc: Global, asked: &Asked<'_>) -> Result<Vec<Dones>, Fail>
 
 // Lays lanes out, once more if memory was refused. Tells each call by its key, start and end, the certificate, and what the checker
 // says.
-fn lay(alloc: Global, asked: &Asked<'_>, step: &mut Step<'_>) -> Result<(), Fail> {
+fn lay(alloc: Global, asked: &Asked<'_>, step: &mut TextStep<'_>) -> Result<(), Fail> {
     let (history, certificate) = match lay_out(alloc, lanes_of(alloc, asked)?) {
         Ok(laid) => laid,
         Err(_) => lay_out(alloc, lanes_of(alloc, asked)?)?,
@@ -157,7 +157,7 @@ fn lay(alloc: Global, asked: &Asked<'_>, step: &mut Step<'_>) -> Result<(), Fail
     Ok(())
 }
 
-fn tell_calls(history: &History, step: &mut Step<'_>) {
+fn tell_calls(history: &History, step: &mut TextStep<'_>) {
     for position in 0..history.len() {
         let call = history.at(position);
         tell_put(&call, step);
@@ -165,7 +165,7 @@ fn tell_calls(history: &History, step: &mut Step<'_>) {
     }
 }
 
-fn tell_order(certificate: &Certificate, step: &mut Step<'_>) {
+fn tell_order(certificate: &Certificate, step: &mut TextStep<'_>) {
     step.tell(b"order");
     for place in 0..certificate.len() {
         step.tell_number(u64::from(certificate.at(place)));
@@ -173,7 +173,7 @@ fn tell_order(certificate: &Certificate, step: &mut Step<'_>) {
 }
 
 // Tells a put by its key and start: it has the key as value too, never expires, and is of caller 7.
-fn tell_put(call: &CallRef<'_>, step: &mut Step<'_>) {
+fn tell_put(call: &CallRef<'_>, step: &mut TextStep<'_>) {
     step.tell(call.key);
     step.tell_number(call.start);
     if !is_put(call) {
@@ -189,7 +189,7 @@ fn is_put(call: &CallRef<'_>) -> bool {
 }
 
 // Tells each call of a list by its key, start, point and end.
-fn tell_list(list: &Dones, step: &mut Step<'_>) {
+fn tell_list(list: &Dones, step: &mut TextStep<'_>) {
     if list.is_empty() {
         step.tell(b"empty");
     }

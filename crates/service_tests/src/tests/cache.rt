@@ -24,7 +24,7 @@ use service_lane::Filled;
 use std::alloc::Global;
 use std::sync::Wait;
 use std::test::Fail;
-use test_devices::{Step, is, key, value};
+use test_devices::{TextStep, is, key, value};
 
 type Cache<D, L, J> = ServiceCache<D, Rriparoo, 256, L, J>;
 

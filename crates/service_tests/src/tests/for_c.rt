@@ -11,7 +11,7 @@ use c_lane::{CLane as LaneOver, Hit, LaneShape, Seed, Status};
 use page_device::MemoryDevice;
 use std::alloc::Global;
 use std::test::Fail;
-use test_devices::{Step, is};
+use test_devices::{TextStep, is};
 
 type Device = MemoryDevice<4096>;
 

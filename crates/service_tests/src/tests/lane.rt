@@ -16,7 +16,7 @@ use record_pages::{Config, KeyFault, MissCause, NEVER, Pushed, PutFault, Tier};
 use service_lane::{Counter, Counts, Filled, Lease, ServiceLane, UpkeepStep, Upkept};
 use std::alloc::Global;
 use std::test::Fail;
-use test_devices::{Step, is};
+use test_devices::{TextStep, is};
 
 type Lane = ServiceLane<MemoryDevice<256>, 256>;
 

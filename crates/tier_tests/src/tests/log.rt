@@ -32,4 +32,4 @@ use record_pages::{Config, Key, Layout, Looked, TimedValue};
 use std::alloc::{AllocError, Global};
 use std::process::Abort;
 use std::test::Fail;
-use test_devices::{BlankDevice, Scripted, Step, is, key, run_text, value};
+use test_devices::{BlankDevice, Scripted, TextStep, is, key, run_text, value};

@@ -1,7 +1,7 @@
 //! The reader of texts: which steps are right, and which line is the first wrong one.
 use std::alloc::Global;
 use std::test::Fail;
-use test_devices::{Scripted, Step, find_wrong_line, is, run_text};
+use test_devices::{Scripted, TextStep, find_wrong_line, is, run_text};
 
 /// Calls that tell what they take.
 #[derive(Drop)]
@@ -12,7 +12,7 @@ impl Scripted for Echo {
 
     ghost can_act = { ⊤ };
 
-    fn act(&mut self, _alloc: Global, step: &mut Step<'_>) -> Result<(), Fail> {
+    fn act(&mut self, _alloc: Global, step: &mut TextStep<'_>) -> Result<(), Fail> {
         let word = step.word();
         if is(word, b"say") {
             say(step);
@@ -29,23 +29,23 @@ impl Scripted for Echo {
     }
 }
 
-fn say(step: &mut Step<'_>) {
+fn say(step: &mut TextStep<'_>) {
     let bytes = step.bytes();
     step.tell(bytes.as_slice());
 }
 
-fn add(step: &mut Step<'_>) {
+fn add(step: &mut TextStep<'_>) {
     let sum = step.number().wrapping_add(u64::from(step.small()));
     step.tell_number(sum);
 }
 
-fn count(step: &mut Step<'_>) {
+fn count(step: &mut TextStep<'_>) {
     let numbers = step.numbers();
     step.tell(b"of");
     step.tell_number(numbers.len() as u64);
 }
 
-fn pair(step: &mut Step<'_>) {
+fn pair(step: &mut TextStep<'_>) {
     match step.pair_if_any() {
         Some((key, value)) => step.tell_pair(key, value.as_slice()),
         None => step.refuse(),

@@ -20,7 +20,7 @@ use record_pages::{
 };
 use std::alloc::{AllocError, Global};
 use std::test::Fail;
-use test_devices::{BlankDevice, Scripted, Step, is, key, run_text, value};
+use test_devices::{BlankDevice, Scripted, TextStep, is, key, run_text, value};
 
 // One lane of one set.
 const ONE_SET: Config = Config {

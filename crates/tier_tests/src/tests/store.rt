@@ -27,7 +27,7 @@ use record_pages::{Config, Field, Pushed, PutFault, Tier};
 use rriparoo::Rriparoo;
 use std::alloc::{AllocError, Global};
 use std::test::Fail;
-use test_devices::{StaleDevice, Step, is, key, value};
+use test_devices::{StaleDevice, TextStep, is, key, value};
 
 // One lane of one set, with one object in memory and two segments of one page. Page 0 is the set's, pages 1 and 2 are the log's.
 const ONE_SET: Config = Config {

@@ -4,7 +4,7 @@ use page_device::{FuseDevice, MemoryDevice};
 use record_pages::{Config, Layout, Looked};
 use std::alloc::{AllocError, Global};
 use std::test::Fail;
-use test_devices::{AskedDevice, Step};
+use test_devices::{AskedDevice, TextStep};
 
 /// A device in memory that refuses calls, and tells which came.
 pub type Tried = AskedDevice<FuseDevice<MemoryDevice<256>>>;
@@ -53,7 +53,7 @@ pub fn device(alloc: Global, pages: u32, refused: Refused) -> Result<Tried, Allo
 }
 
 /// Tells what a look gave.
-pub fn tell_looked(looked: &Looked, step: &mut Step<'_>) {
+pub fn tell_looked(looked: &Looked, step: &mut TextStep<'_>) {
     match looked {
         Looked::Hit(value) => {
             step.tell(b"hit");

@@ -11,7 +11,7 @@ use rand_core::utils::NextWord;
 use rand_pcg::Lcg64Xsh32;
 use std::alloc::Global;
 use std::test::Fail;
-use test_devices::{Scripted, Step, is, run_text};
+use test_devices::{Scripted, TextStep, is, run_text};
 
 /// The generator that operations are drawn by.
 #[derive(Drop)]
@@ -24,7 +24,7 @@ impl Scripted for Drawing {
 
     ghost can_act = { ⊤ };
 
-    fn act(&mut self, alloc: Global, step: &mut Step<'_>) -> Result<(), Fail> {
+    fn act(&mut self, alloc: Global, step: &mut TextStep<'_>) -> Result<(), Fail> {
         let word = step.word();
         if is(word, b"words") {
             self.generator = Lcg64Xsh32::new(step.number(), step.number());
@@ -40,7 +40,7 @@ impl Scripted for Drawing {
 }
 
 /// Takes a caller, a number and the words of a load, and tells the operation that is drawn.
-fn draw(alloc: Global, generator: &mut Lcg64Xsh32, step: &mut Step<'_>) -> Result<(), Fail> {
+fn draw(alloc: Global, generator: &mut Lcg64Xsh32, step: &mut TextStep<'_>) -> Result<(), Fail> {
     let caller = u16::try_from(step.small())?;
     let number = step.small();
     let first = step.word();
@@ -52,7 +52,7 @@ fn draw(alloc: Global, generator: &mut Lcg64Xsh32, step: &mut Step<'_>) -> Resul
 }
 
 /// Tells an operation: a get with its moment, a put with its value, the word that admits it, and its expiry.
-fn tell_operation(operation: &Operation, step: &mut Step<'_>) {
+fn tell_operation(operation: &Operation, step: &mut TextStep<'_>) {
     match operation {
         Operation::Get(key, moment) => {
             step.tell(b"get");
@@ -74,7 +74,7 @@ fn tell_operation(operation: &Operation, step: &mut Step<'_>) {
 }
 
 /// Tells a value, and of a long one how long it is and its last byte.
-fn tell_value(value: &[u8], step: &mut Step<'_>) {
+fn tell_value(value: &[u8], step: &mut TextStep<'_>) {
     match value {
         [.., last] if value.len() > 64 => {
             step.tell_number(value.len() as u64);

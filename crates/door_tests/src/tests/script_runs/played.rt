@@ -7,7 +7,7 @@ use std::alloc::Global;
 use std::hash::{BuildHasherDefault, FoldHasher};
 use std::io::BufWriter;
 use std::test::Fail;
-use test_devices::{Scripted, Step, is, run_text};
+use test_devices::{Scripted, TextStep, is, run_text};
 
 /// What hashes keys in these tests.
 type Known = BuildHasherDefault<FoldHasher>;
@@ -44,7 +44,7 @@ impl Scripted for Played {
 
     ghost can_act = { ⊤ };
 
-    fn act(&mut self, alloc: Global, step: &mut Step<'_>) -> Result<(), Fail> {
+    fn act(&mut self, alloc: Global, step: &mut TextStep<'_>) -> Result<(), Fail> {
         let word = step.word();
         if is(word, b"end") {
             self.end(alloc, step);
@@ -63,7 +63,7 @@ impl Scripted for Played {
 
 impl Played {
     /// Takes what the next script is read and written by, and says whether a word is of that.
-    fn is_set(&mut self, word: &[u8], step: &mut Step<'_>) -> bool {
+    fn is_set(&mut self, word: &[u8], step: &mut TextStep<'_>) -> bool {
         if is(word, b"large") {
             self.ways.is_large = true;
         } else if is(word, b"slow") {
@@ -96,7 +96,7 @@ impl Played {
     }
 
     /// Runs the script, and tells how it ends.
-    fn end(&mut self, alloc: Global, step: &mut Step<'_>) {
+    fn end(&mut self, alloc: Global, step: &mut TextStep<'_>) {
         let mut input = self.input();
         let mut output = Output::new(alloc, self.ways.refuses);
         let ended = if self.ways.is_large {
@@ -113,7 +113,7 @@ impl Played {
     }
 
     /// Answers the script as the program does, and tells how that ends, and how many bytes the output has.
-    fn answer(&mut self, alloc: Global, step: &mut Step<'_>) -> Result<(), Fail> {
+    fn answer(&mut self, alloc: Global, step: &mut TextStep<'_>) -> Result<(), Fail> {
         let mut input = self.input();
         let mut writer = BufWriter::new(alloc, Output::new(alloc, self.ways.refuses))?;
         let ended = answer_script::<256, Known, Input, Output>(
@@ -129,7 +129,7 @@ impl Played {
     }
 
     /// Tells what was written, if it is not what the lines must get, and begins another script.
-    fn finish(&mut self, output: &Output, step: &mut Step<'_>) {
+    fn finish(&mut self, output: &Output, step: &mut TextStep<'_>) {
         if output.bytes != self.replies {
             step.tell(b"with");
             step.tell(output.bytes.as_slice());
@@ -143,7 +143,7 @@ impl Played {
 }
 
 /// Tells how a script ended.
-fn tell_ending(ending: Ending, step: &mut Step<'_>) {
+fn tell_ending(ending: Ending, step: &mut TextStep<'_>) {
     if ending == Ending::Done {
         step.tell(b"ended");
     } else {
@@ -156,7 +156,7 @@ fn add_line(
     alloc: Global,
     text: &mut Vec<u8>,
     first: &[u8],
-    step: &mut Step<'_>,
+    step: &mut TextStep<'_>,
 ) -> Result<(), Fail> {
     let mut word = first;
     for place in 0..16usize {

@@ -12,7 +12,7 @@ use std::sync::Wait;
 use std::test::Fail;
 use std::thread::Threads;
 use std::time::Clock;
-use test_devices::{Scripted, StaleDevice, Step, is, run_line};
+use test_devices::{Scripted, StaleDevice, TextStep, is, run_line};
 
 /// The words of the load that is run after the line, if there are some, and from which write on the first page of its device goes
 /// back; and what the last load ended with and wrote. Its status has to be asked for.
@@ -31,7 +31,7 @@ impl Scripted for Over {
 
     ghost can_act = { ⊤ };
 
-    fn act(&mut self, alloc: Global, step: &mut Step<'_>) -> Result<(), Fail> {
+    fn act(&mut self, alloc: Global, step: &mut TextStep<'_>) -> Result<(), Fail> {
         let word = step.word();
         if !self.words.is_empty() {
             // It is run after the line, so it is the line's last step.
@@ -77,7 +77,7 @@ fn run_taken<R: Threads + Wait + Sync + AllocGlobal + Clock + RandomSource>(
 }
 
 /// Tells the report of a load that did not end with a wrong hit.
-fn tell_missed(out: &[u8], err: &[u8], step: &mut Step<'_>) {
+fn tell_missed(out: &[u8], err: &[u8], step: &mut TextStep<'_>) {
     if !is_caught(
         str::from_utf8(out).unwrap_or(""),
         str::from_utf8(err).unwrap_or(""),

@@ -4,7 +4,7 @@ use rand_core::utils::NextWord;
 use rand_pcg::Lcg64Xsh32;
 use std::alloc::{AllocError, Global};
 use std::test::Fail;
-use test_devices::{Scripted, Step, run_text};
+use test_devices::{Scripted, TextStep, run_text};
 use zipf::scattered;
 
 /// Words at the ends of the ranks, and on both sides of where one rank ends: how many ranks there are, a word, and the rank that it
@@ -39,7 +39,7 @@ impl Scripted for Drawing {
 
     ghost can_act = { ⊤ };
 
-    fn act(&mut self, alloc: Global, step: &mut Step<'_>) -> Result<(), Fail> {
+    fn act(&mut self, alloc: Global, step: &mut TextStep<'_>) -> Result<(), Fail> {
         let count = step.small();
         if count < 1 || count > 100000000 {
             step.refuse();

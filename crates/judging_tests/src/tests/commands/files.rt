@@ -11,7 +11,7 @@ use std::mem::replace;
 use std::random::RandomSource;
 use std::rt::Files;
 use std::test::Fail;
-use test_devices::{Scripted, Step, is, run_text};
+use test_devices::{Scripted, TextStep, is, run_text};
 use trace_file::FileName;
 
 /// A trace of two puts, of `k` and of `j`.
@@ -65,7 +65,7 @@ impl<R: AllocGlobal + Files + Input + RandomSource> Scripted for Played<'_, R> {
 
     ghost can_act = { ⊤ };
 
-    fn act(&mut self, alloc: Global, step: &mut Step<'_>) -> Result<(), Fail> {
+    fn act(&mut self, alloc: Global, step: &mut TextStep<'_>) -> Result<(), Fail> {
         let word = step.word();
         if asks(alloc, &mut self.asked, word, step)? || gives(&mut self.input, word, step)? {
             return Ok(());
@@ -91,7 +91,7 @@ impl<R: AllocGlobal + Files + Input + RandomSource> Played<'_, R> {
         alloc: Global,
         word: &[u8],
         file: &str,
-        step: &mut Step<'_>,
+        step: &mut TextStep<'_>,
     ) -> Result<u8, AllocError> {
         let lent = file == "-" || self.asked.bare;
         let mut input = self.input.as_slice();
@@ -126,7 +126,7 @@ fn asks(
     alloc: Global,
     asked: &mut Asked,
     word: &[u8],
-    step: &mut Step<'_>,
+    step: &mut TextStep<'_>,
 ) -> Result<bool, AllocError> {
     if is(word, b"bare") {
         asked.bare = true;
@@ -147,7 +147,7 @@ fn asks(
 }
 
 /// Gives bytes, and says whether the word is one of that.
-fn gives(input: &mut Vec<u8>, word: &[u8], step: &mut Step<'_>) -> Result<bool, AllocError> {
+fn gives(input: &mut Vec<u8>, word: &[u8], step: &mut TextStep<'_>) -> Result<bool, AllocError> {
     if is(word, b"line") {
         push_line(input, step)?;
     } else if is(word, b"trace") {

@@ -11,7 +11,7 @@ use record_pages::Prediction;
 use std::alloc::Global;
 use std::marker::Model;
 use std::test::Fail;
-use test_devices::{Scripted, Step, is, run_text};
+use test_devices::{Scripted, TextStep, is, run_text};
 
 /// An index of as many sets as there may be.
 #[derive(Drop)]
@@ -32,7 +32,7 @@ impl Scripted for Owner {
 
     ghost can_act = { ⊤ };
 
-    fn act(&mut self, _alloc: Global, step: &mut Step<'_>) -> Result<(), Fail> {
+    fn act(&mut self, _alloc: Global, step: &mut TextStep<'_>) -> Result<(), Fail> {
         let word = step.word();
         if is(word, b"add") {
             add(&mut self.index, step);
@@ -56,7 +56,7 @@ fn enters(index: &mut LogIndex, set: u32, tag: u16, place: Place, prediction: Pr
 }
 
 // Adds the entry that a step tells, as the numbers of an entry stand, and tells whether there was room.
-fn add(index: &mut LogIndex, step: &mut Step<'_>)
+fn add(index: &mut LogIndex, step: &mut TextStep<'_>)
     requires { index.old.sets ≡ 65536 }
     ensures { index.new.sets ≡ 65536 }
 {
@@ -73,15 +73,15 @@ fn add(index: &mut LogIndex, step: &mut Step<'_>)
     step.tell(if entered { b"added" } else { b"full" });
 }
 
-fn half(step: &mut Step<'_>) -> u16 {
+fn half(step: &mut TextStep<'_>) -> u16 {
     (step.small() % 65536) as u16
 }
 
-fn byte(step: &mut Step<'_>) -> u8 {
+fn byte(step: &mut TextStep<'_>) -> u8 {
     (step.small() % 256) as u8
 }
 
-fn place_of(step: &mut Step<'_>) -> Place {
+fn place_of(step: &mut TextStep<'_>) -> Place {
     Place {
         segment: half(step),
         page: byte(step),
@@ -90,7 +90,7 @@ fn place_of(step: &mut Step<'_>) -> Place {
 }
 
 // Makes a call that drops or lowers entries, if the word names one, and says whether it does.
-fn changes(index: &mut LogIndex, word: &[u8], step: &mut Step<'_>) -> bool
+fn changes(index: &mut LogIndex, word: &[u8], step: &mut TextStep<'_>) -> bool
     ensures { index.new.sets ≡ index.old.sets }
 {
     if is(word, b"drop-tag") {
@@ -116,7 +116,7 @@ fn changes(index: &mut LogIndex, word: &[u8], step: &mut Step<'_>) -> bool
 }
 
 // Makes a call that changes nothing, and tells what it gives.
-fn look(index: &LogIndex, word: &[u8], step: &mut Step<'_>) {
+fn look(index: &LogIndex, word: &[u8], step: &mut TextStep<'_>) {
     if is(word, b"len") {
         tell_len(index, step);
     } else if is(word, b"count") {
@@ -131,7 +131,7 @@ fn look(index: &LogIndex, word: &[u8], step: &mut Step<'_>) {
 }
 
 // How many entries there are, `empty` if there is none, and whether there is room for one more.
-fn tell_len(index: &LogIndex, step: &mut Step<'_>) {
+fn tell_len(index: &LogIndex, step: &mut TextStep<'_>) {
     step.tell_number(index.len() as u64);
     if index.is_empty() {
         step.tell(b"empty");
@@ -140,7 +140,7 @@ fn tell_len(index: &LogIndex, step: &mut Step<'_>) {
 }
 
 // The entries that a walk over a set gives, and `end` if it gives no more when it is asked again.
-fn tell_walk(index: &LogIndex, step: &mut Step<'_>) {
+fn tell_walk(index: &LogIndex, step: &mut TextStep<'_>) {
     let mut walk = index.entries_of(step.small());
     for _ in 0..8usize {
         let Some(entry) = walk.next() else {
@@ -154,7 +154,7 @@ fn tell_walk(index: &LogIndex, step: &mut Step<'_>) {
 }
 
 // The entry that a call gives.
-fn found(index: &LogIndex, word: &[u8], step: &mut Step<'_>) -> Option<Entry> {
+fn found(index: &LogIndex, word: &[u8], step: &mut TextStep<'_>) -> Option<Entry> {
     if is(word, b"of-set") {
         let set = step.small();
         return index.of_set(set, step.small() as usize);
@@ -178,7 +178,7 @@ fn found(index: &LogIndex, word: &[u8], step: &mut Step<'_>) -> Option<Entry> {
     index.oldest()
 }
 
-fn tell_entry(entry: Option<Entry>, step: &mut Step<'_>) {
+fn tell_entry(entry: Option<Entry>, step: &mut TextStep<'_>) {
     let Some(entry) = entry else {
         step.tell(b"none");
         return;

@@ -5,7 +5,7 @@ use memory_cache::{MemoryCache, Pair};
 use record_pages::{Key, TimedValue, Value};
 use std::alloc::Global;
 use std::test::Fail;
-use test_devices::{Scripted, Step, is, run_text};
+use test_devices::{Scripted, TextStep, is, run_text};
 
 /// When each value of these tests expires. A memory keeps it, and does not look at it.
 const EXPIRES: u64 = 7;
@@ -48,7 +48,7 @@ impl Scripted for Owner {
 
     ghost can_act = { ⊤ };
 
-    fn act(&mut self, alloc: Global, step: &mut Step<'_>) -> Result<(), Fail> {
+    fn act(&mut self, alloc: Global, step: &mut TextStep<'_>) -> Result<(), Fail> {
         let word = step.word();
         if is(word, b"put") {
             return put(alloc, &mut self.memory, step);
@@ -65,7 +65,7 @@ impl Scripted for Owner {
 
 // Puts the value of a key that a step tells, and tells the pair that is pushed out, or `nobody`. A refused put hands the pair back, and
 // leaves as many pairs as there were.
-fn put(alloc: Global, memory: &mut MemoryCache, step: &mut Step<'_>) -> Result<(), Fail> {
+fn put(alloc: Global, memory: &mut MemoryCache, step: &mut TextStep<'_>) -> Result<(), Fail> {
     let key = step.word();
     let value = step.bytes();
     let held = memory.len();
@@ -90,7 +90,7 @@ fn refusal(is_whole: bool) -> Fail {
     })
 }
 
-fn tell_out(out: Option<Pair>, step: &mut Step<'_>) {
+fn tell_out(out: Option<Pair>, step: &mut TextStep<'_>) {
     match out {
         Some(pair) => {
             step.tell_pair(pair.key.bytes(), bytes_of(&pair.value));
@@ -100,7 +100,7 @@ fn tell_out(out: Option<Pair>, step: &mut Step<'_>) {
 }
 
 // How many pairs there are, and `empty` if there is none.
-fn tell_len(memory: &MemoryCache, step: &mut Step<'_>) {
+fn tell_len(memory: &MemoryCache, step: &mut TextStep<'_>) {
     step.tell_number(memory.len() as u64);
     if memory.is_empty() {
         step.tell(b"empty");
@@ -108,7 +108,7 @@ fn tell_len(memory: &MemoryCache, step: &mut Step<'_>) {
 }
 
 // Makes the call of a key that a word names, and tells the value that it gives. A raise gives none.
-fn ask(memory: &mut MemoryCache, word: &[u8], key: &Key, step: &mut Step<'_>) {
+fn ask(memory: &mut MemoryCache, word: &[u8], key: &Key, step: &mut TextStep<'_>) {
     if is(word, b"raise") {
         memory.raise(key.bytes());
     } else if is(word, b"remove") {
@@ -122,7 +122,7 @@ fn ask(memory: &mut MemoryCache, word: &[u8], key: &Key, step: &mut Step<'_>) {
     }
 }
 
-fn tell_value(value: Option<&TimedValue>, step: &mut Step<'_>) {
+fn tell_value(value: Option<&TimedValue>, step: &mut TextStep<'_>) {
     match value {
         Some(value) => step.tell(bytes_of(value)),
         None => step.tell(b"absent"),

@@ -18,7 +18,7 @@ impl Scripted for Called {
 
     ghost can_act = { ⊤ };
 
-    fn act(&mut self, alloc: Global, step: &mut Step<'_>) -> Result<(), Fail> {
+    fn act(&mut self, alloc: Global, step: &mut TextStep<'_>) -> Result<(), Fail> {
         let word = step.word();
         if is(word, b"refuse") {
             self.refused = step.small();
@@ -49,7 +49,7 @@ pub fn play(alloc: Global, text: &[u8]) -> Result<(), Fail> {
 }
 
 // The lane of a number and a configuration, opened once more if memory was refused.
-fn opened(alloc: Global, refused: u32, step: &mut Step<'_>) -> Result<Box<Lane>, Fail> {
+fn opened(alloc: Global, refused: u32, step: &mut TextStep<'_>) -> Result<Box<Lane>, Fail> {
     let number = step.small();
     let config = step.config();
     if number >= config.lanes {
@@ -67,7 +67,7 @@ fn device(alloc: Global, refused: u32) -> Result<FuseDevice<MemoryDevice<256>>, 
 }
 
 // Ends a lane. Tells how many calls are given back, the end of the last, and how many pages the device has.
-fn end(lane: Option<Box<Lane>>, step: &mut Step<'_>) -> Result<(), Fail> {
+fn end(lane: Option<Box<Lane>>, step: &mut TextStep<'_>) -> Result<(), Fail> {
     let Some(lane) = lane else {
         return Err("a lane".into());
     };
@@ -77,7 +77,7 @@ fn end(lane: Option<Box<Lane>>, step: &mut Step<'_>) -> Result<(), Fail> {
     Ok(())
 }
 
-fn tell_last(calls: &History, step: &mut Step<'_>) {
+fn tell_last(calls: &History, step: &mut TextStep<'_>) {
     let count = calls.len();
     step.tell_number(count as u64);
     step.tell_number(if count == 0 {
@@ -88,7 +88,7 @@ fn tell_last(calls: &History, step: &mut Step<'_>) {
 }
 
 // Makes the call that a word names, and tells what it gives, and what is recorded of it.
-fn call(alloc: Global, lane: &mut Lane, word: &[u8], step: &mut Step<'_>) -> Result<(), Fail> {
+fn call(alloc: Global, lane: &mut Lane, word: &[u8], step: &mut TextStep<'_>) -> Result<(), Fail> {
     let before = lane.len();
     if is(word, b"put") || is(word, b"get") || is(word, b"remove") {
         recorded(alloc, lane, word, step)?;
@@ -106,7 +106,7 @@ fn call(alloc: Global, lane: &mut Lane, word: &[u8], step: &mut Step<'_>) -> Res
 }
 
 // Tells the call that was recorded after so many, if there is one: its caller, start, point and key, and what it did.
-fn tell_noted(lane: &Lane, before: usize, step: &mut Step<'_>) {
+fn tell_noted(lane: &Lane, before: usize, step: &mut TextStep<'_>) {
     let count = lane.len();
     if count == before {
         return;
@@ -125,7 +125,7 @@ fn tell_noted(lane: &Lane, before: usize, step: &mut Step<'_>) {
 }
 
 // Tells what a lane shows of itself.
-fn look(lane: &Lane, word: &[u8], step: &mut Step<'_>) {
+fn look(lane: &Lane, word: &[u8], step: &mut TextStep<'_>) {
     if is(word, b"is") {
         step.tell_number(u64::from(lane.lane()));
         tell_config(lane, step);
@@ -142,7 +142,7 @@ fn look(lane: &Lane, word: &[u8], step: &mut Step<'_>) {
     }
 }
 
-fn tell_config(lane: &Lane, step: &mut Step<'_>) {
+fn tell_config(lane: &Lane, step: &mut TextStep<'_>) {
     let config = lane.config();
     step.tell_number(u64::from(config.lanes));
     step.tell_number(u64::from(config.sets));
@@ -155,7 +155,7 @@ fn tell_config(lane: &Lane, step: &mut Step<'_>) {
 }
 
 // Tells the letters of what the calls of a lane did, in order: put, remove, hit or miss.
-fn tell_acts(lane: &Lane, step: &mut Step<'_>) {
+fn tell_acts(lane: &Lane, step: &mut TextStep<'_>) {
     let mut letters = Spelled::new();
     for number in 0..lane.len() {
         if letters.try_push(letter_of(lane.at(number).act)).is_err() {
@@ -196,7 +196,12 @@ struct Asked<'a> {
 }
 
 // Makes a call that is recorded, once more if memory was refused.
-fn recorded(alloc: Global, lane: &mut Lane, word: &[u8], step: &mut Step<'_>) -> Result<(), Fail> {
+fn recorded(
+    alloc: Global,
+    lane: &mut Lane,
+    word: &[u8],
+    step: &mut TextStep<'_>,
+) -> Result<(), Fail> {
     let name = step.bytes();
     let is_put = is(word, b"put");
     let bytes = if is_put { step.bytes() } else { Spelled::new() };
@@ -218,7 +223,7 @@ fn is_answered(
     alloc: Global,
     lane: &mut Lane,
     asked: &Asked<'_>,
-    step: &mut Step<'_>,
+    step: &mut TextStep<'_>,
 ) -> Result<bool, Fail> {
     let caller = (lane.len() % 65536) as u16;
     let point = next_point(lane)?;
@@ -235,7 +240,7 @@ fn is_answered(
     Ok(is_stored(stored, step))
 }
 
-fn is_got(answer: Result<Answer, RecordFault>, step: &mut Step<'_>) -> bool {
+fn is_got(answer: Result<Answer, RecordFault>, step: &mut TextStep<'_>) -> bool {
     match answer {
         Ok(answer) => {
             tell_answer(&answer, step);
@@ -245,7 +250,7 @@ fn is_got(answer: Result<Answer, RecordFault>, step: &mut Step<'_>) -> bool {
     }
 }
 
-fn is_stored(stored: Result<Pushed, RecordPutFault>, step: &mut Step<'_>) -> bool {
+fn is_stored(stored: Result<Pushed, RecordPutFault>, step: &mut TextStep<'_>) -> bool {
     match stored {
         Ok(pushed) => {
             step.tell(name_of_pushed(pushed));

@@ -14,7 +14,7 @@ use std::fs;
 use std::fs::File;
 use std::rt::Files;
 use std::test::Fail;
-use test_devices::{Scripted, Spelled, Step, is, run_text};
+use test_devices::{Scripted, Spelled, TextStep, is, run_text};
 use trace_file::{Certificate, History};
 
 // How many callers a world has.
@@ -50,7 +50,7 @@ impl<'a, R: Files<File = File>> Scripted for Told<'a, R> {
 
     ghost can_act = { ⊤ };
 
-    fn act(&mut self, alloc: Global, step: &mut Step<'_>) -> Result<(), Fail> {
+    fn act(&mut self, alloc: Global, step: &mut TextStep<'_>) -> Result<(), Fail> {
         let word = step.word();
         if is(word, b"world") {
             self.begin(alloc, step);
@@ -74,7 +74,7 @@ impl<'a, R: Files<File = File>> Scripted for Told<'a, R> {
 
 impl<'a, R: Files<File = File>> Told<'a, R> {
     // Begins to describe a world of lanes and sets, with room for objects in memory.
-    fn begin(&mut self, alloc: Global, step: &mut Step<'_>) {
+    fn begin(&mut self, alloc: Global, step: &mut TextStep<'_>) {
         self.config = Config {
             lanes: step.small(),
             sets: step.small(),
@@ -87,7 +87,12 @@ impl<'a, R: Files<File = File>> Told<'a, R> {
 
     // Plays over memory or over a file, and tells the letters of the replies, and whether the checker accepts the calls. If memory
     // was refused to one of the acts or moves, what was answered is accepted too, and it is played once more.
-    fn play(&mut self, alloc: Global, over_file: bool, step: &mut Step<'_>) -> Result<(), Fail> {
+    fn play(
+        &mut self,
+        alloc: Global,
+        over_file: bool,
+        step: &mut TextStep<'_>,
+    ) -> Result<(), Fail> {
         let mut played = self.once(alloc, over_file, self.refused)?;
         if lacks_memory(&played.replies) && is_accepted(alloc, &*played)? {
             played = self.once(alloc, over_file, self.refused)?;
@@ -100,7 +105,7 @@ impl<'a, R: Files<File = File>> Told<'a, R> {
 
     // Plays with each call of a device up to a number refused in turn, alone and with all after it, over memory and over a file, and
     // tells whether all is accepted.
-    fn play_each(&mut self, alloc: Global, step: &mut Step<'_>) -> Result<(), Fail> {
+    fn play_each(&mut self, alloc: Global, step: &mut TextStep<'_>) -> Result<(), Fail> {
         let mut are_accepted = true;
         for place in 0..4 * (step.small() % 256) {
             let refused = Refused {
@@ -160,7 +165,7 @@ impl<'a, R: Files<File = File>> Told<'a, R> {
     }
 
     // Tells how many calls were played, a call, or the order of the certificate.
-    fn look(&self, word: &[u8], step: &mut Step<'_>) {
+    fn look(&self, word: &[u8], step: &mut TextStep<'_>) {
         let Some(played) = &self.played else {
             step.refuse();
             return;
@@ -227,7 +232,7 @@ fn add(
     alloc: Global,
     events: &mut Vec<Event>,
     word: &[u8],
-    step: &mut Step<'_>,
+    step: &mut TextStep<'_>,
 ) -> Result<(), Fail> {
     if is(word, b"begin") {
         let word = step.word();
@@ -245,7 +250,7 @@ fn add(
 }
 
 // What a call asks that begins.
-fn operation(alloc: Global, word: &[u8], step: &mut Step<'_>) -> Result<Operation, Fail> {
+fn operation(alloc: Global, word: &[u8], step: &mut TextStep<'_>) -> Result<Operation, Fail> {
     let key = step.key(alloc)?;
     Ok(if is(word, b"get") {
         Operation::Get(key, 0)
@@ -257,7 +262,7 @@ fn operation(alloc: Global, word: &[u8], step: &mut Step<'_>) -> Result<Operatio
 }
 
 // An event that begins no call.
-fn event(alloc: Global, word: &[u8], step: &mut Step<'_>) -> Result<Event, Fail> {
+fn event(alloc: Global, word: &[u8], step: &mut TextStep<'_>) -> Result<Event, Fail> {
     let number = step.small();
     if is(word, b"act") {
         return Ok(Event::Act((number % 65536) as u16));
@@ -297,7 +302,7 @@ fn is_accepted(alloc: Global, played: &Played) -> Result<bool, Fail> {
     Ok(verdict == Verdict::Accepted)
 }
 
-fn tell_verdict(is_accepted: bool, step: &mut Step<'_>) {
+fn tell_verdict(is_accepted: bool, step: &mut TextStep<'_>) {
     step.tell(if is_accepted {
         b"accepted"
     } else {
@@ -306,7 +311,7 @@ fn tell_verdict(is_accepted: bool, step: &mut Step<'_>) {
 }
 
 // Takes a position, and tells the call there: its caller, start, end and key, and what it did.
-fn tell_call(history: &History, step: &mut Step<'_>) {
+fn tell_call(history: &History, step: &mut TextStep<'_>) {
     let position = step.small() as usize;
     if position >= history.len() {
         step.refuse();
@@ -322,7 +327,7 @@ fn tell_call(history: &History, step: &mut Step<'_>) {
 }
 
 // Tells the positions of a certificate.
-fn tell_order(certificate: &Certificate, step: &mut Step<'_>) {
+fn tell_order(certificate: &Certificate, step: &mut TextStep<'_>) {
     for place in 0..certificate.len() {
         step.tell_number(u64::from(certificate.at(place)));
     }

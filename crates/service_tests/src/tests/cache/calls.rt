@@ -7,7 +7,12 @@ use record_pages::{KeyFault, MissCause, Tier};
 
 impl<'a, D: PageDevice<256>, L: KeyLanes, J: BookName, R: Wait> Called<'a, D, L, J, R> {
     /// Makes the call of a cache that a step spells, and tells what it gives.
-    pub fn call(&mut self, alloc: Global, word: &[u8], step: &mut Step<'_>) -> Result<(), Fail> {
+    pub fn call(
+        &mut self,
+        alloc: Global,
+        word: &[u8],
+        step: &mut TextStep<'_>,
+    ) -> Result<(), Fail> {
         if is(word, b"put") {
             let (key, value) = (step.key(alloc)?, step.value(alloc)?);
             let put = self.cache.put(self.rt, &mut self.seat, key, value, NEVER);
@@ -27,7 +32,7 @@ impl<'a, D: PageDevice<256>, L: KeyLanes, J: BookName, R: Wait> Called<'a, D, L,
     }
 
     // The same of the calls that take a key's bytes.
-    fn call_by_bytes(&mut self, word: &[u8], step: &mut Step<'_>) {
+    fn call_by_bytes(&mut self, word: &[u8], step: &mut TextStep<'_>) {
         if is(word, b"get") {
             self.get(step);
         } else if is(word, b"get-or-lease") {
@@ -42,7 +47,7 @@ impl<'a, D: PageDevice<256>, L: KeyLanes, J: BookName, R: Wait> Called<'a, D, L,
     }
 
     // Looks a key up with a new seat, and tells where its value was and the value, which never expires.
-    fn get(&mut self, step: &mut Step<'_>) {
+    fn get(&mut self, step: &mut TextStep<'_>) {
         let mut found = ValueBuffer::empty();
         let name = step.bytes();
         let seat = &mut self.cache.seat();
@@ -54,7 +59,7 @@ impl<'a, D: PageDevice<256>, L: KeyLanes, J: BookName, R: Wait> Called<'a, D, L,
     }
 
     // Looks a key up that is not there, and keeps its lease.
-    fn get_or_lease(&mut self, step: &mut Step<'_>) {
+    fn get_or_lease(&mut self, step: &mut TextStep<'_>) {
         let mut found = ValueBuffer::empty();
         let name = step.bytes();
         let seat = &mut self.seat;
@@ -66,7 +71,7 @@ impl<'a, D: PageDevice<256>, L: KeyLanes, J: BookName, R: Wait> Called<'a, D, L,
     }
 
     // Removes a key, and tells why that is refused.
-    fn remove(&mut self, step: &mut Step<'_>) {
+    fn remove(&mut self, step: &mut TextStep<'_>) {
         let name = step.bytes();
         if let Err(fault) = self.cache.remove(self.rt, &mut self.seat, &name) {
             step.tell(name_of_fault(fault));

@@ -26,7 +26,7 @@ impl<'a, D: PageDevice<256>, L: KeyLanes, J: BookName, R: Wait> Scripted
 
     ghost can_act = { ⊤ };
 
-    fn act(&mut self, alloc: Global, step: &mut Step<'_>) -> Result<(), Fail> {
+    fn act(&mut self, alloc: Global, step: &mut TextStep<'_>) -> Result<(), Fail> {
         let word = step.word();
         if is(word, b"right") {
             let is_right = self.is_right(alloc, step.word())?;

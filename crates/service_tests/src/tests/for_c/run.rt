@@ -13,7 +13,7 @@ pub fn call(
     lane: &mut CLane,
     leases: &mut [u64; 2],
     word: &[u8],
-    step: &mut Step<'_>,
+    step: &mut TextStep<'_>,
 ) {
     if is(word, b"get") {
         get(lane, ROOM, step);
@@ -38,7 +38,7 @@ fn status_of(
     lane: &mut CLane,
     leases: &mut [u64; 2],
     word: &[u8],
-    step: &mut Step<'_>,
+    step: &mut TextStep<'_>,
 ) -> Status {
     if is(word, b"put") {
         put(alloc, lane, step)
@@ -58,7 +58,7 @@ fn status_of(
 }
 
 // Puts a value that expires at a moment, if the step has one; once more if memory was refused.
-fn put(alloc: Global, lane: &mut CLane, step: &mut Step<'_>) -> Status {
+fn put(alloc: Global, lane: &mut CLane, step: &mut TextStep<'_>) -> Status {
     let key = step.bytes();
     let value = step.bytes();
     let expires = step.number_if_any().unwrap_or(u64::MAX);
@@ -69,7 +69,7 @@ fn put(alloc: Global, lane: &mut CLane, step: &mut Step<'_>) -> Status {
 }
 
 // Puts a value that never expires, or removes its key.
-fn put_or_remove(alloc: Global, lane: &mut CLane, step: &mut Step<'_>) -> Status {
+fn put_or_remove(alloc: Global, lane: &mut CLane, step: &mut TextStep<'_>) -> Status {
     let key = step.bytes();
     let value = step.bytes();
     match lane.put_or_remove(alloc, &key, &value, u64::MAX) {
@@ -79,14 +79,14 @@ fn put_or_remove(alloc: Global, lane: &mut CLane, step: &mut Step<'_>) -> Status
 }
 
 // Takes the place of a lease.
-fn place_of(step: &mut Step<'_>) -> usize
+fn place_of(step: &mut TextStep<'_>) -> usize
     ensures { result < 2 }
 {
     step.small() as usize % 2
 }
 
 // Fills a key by a lease, once more if memory was refused.
-fn fill(alloc: Global, lane: &mut CLane, leases: &[u64; 2], step: &mut Step<'_>) -> Status {
+fn fill(alloc: Global, lane: &mut CLane, leases: &[u64; 2], step: &mut TextStep<'_>) -> Status {
     let writes = leases[place_of(step)];
     let key = step.bytes();
     let value = step.bytes();
@@ -97,7 +97,7 @@ fn fill(alloc: Global, lane: &mut CLane, leases: &[u64; 2], step: &mut Step<'_>)
 }
 
 // Looks a key up at a moment, into a buffer of so many bytes, and tells what was got.
-fn get(lane: &mut CLane, room: usize, step: &mut Step<'_>) {
+fn get(lane: &mut CLane, room: usize, step: &mut TextStep<'_>) {
     let key = step.bytes();
     let moment = step.number();
     let mut into = [0xeeu8; ROOM];
@@ -131,7 +131,7 @@ fn written(status: Status, hit: Hit) -> usize
 
 // Tells the tier of a hit and its value; of one that the buffer was too short for how long its value is; or why there is none. No byte
 // after the value is written.
-fn tell_got(status: Status, hit: Hit, into: &[u8; ROOM], step: &mut Step<'_>) {
+fn tell_got(status: Status, hit: Hit, into: &[u8; ROOM], step: &mut TextStep<'_>) {
     let length = written(status, hit);
     if !is_blank(&into[length..]) {
         step.refuse();
@@ -157,7 +157,7 @@ fn name_of_tier(tier: u32) -> &'static [u8] {
 }
 
 // Looks a key up that misses, keeps its lease, and tells the status. No byte is written.
-fn get_or_lease(lane: &mut CLane, leases: &mut [u64; 2], step: &mut Step<'_>) {
+fn get_or_lease(lane: &mut CLane, leases: &mut [u64; 2], step: &mut TextStep<'_>) {
     let place = place_of(step);
     let key = step.bytes();
     let mut into = [0xeeu8; ROOM];
@@ -172,7 +172,7 @@ fn get_or_lease(lane: &mut CLane, leases: &mut [u64; 2], step: &mut Step<'_>) {
 }
 
 // Tells what a step of upkeep tells; and whether something is due is then told alike.
-fn tend(lane: &mut CLane, step: &mut Step<'_>) {
+fn tend(lane: &mut CLane, step: &mut TextStep<'_>) {
     let upkeep = lane.upkeep_step();
     step.tell_number(u64::from(upkeep.did));
     step.tell_number(u64::from(upkeep.asked_device));
@@ -190,14 +190,14 @@ static COUNTERS: &[u8] = b"memory_hits log_hits set_hits absent expired unreadab
     copy_hits brought_back pushed_copies";
 
 // Tells the number of the counter that a step names.
-fn count(lane: &CLane, step: &mut Step<'_>) {
+fn count(lane: &CLane, step: &mut TextStep<'_>) {
     match place_among(COUNTERS, step.word()) {
         Some(place) => tell_number_at(place, &lane.counters().numbers, step),
         None => step.refuse(),
     }
 }
 
-fn tell_number_at(place: usize, numbers: &[u64], step: &mut Step<'_>) {
+fn tell_number_at(place: usize, numbers: &[u64], step: &mut TextStep<'_>) {
     match numbers.get(place) {
         Some(number) => step.tell_number(*number),
         None => step.refuse(),

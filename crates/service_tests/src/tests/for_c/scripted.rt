@@ -16,7 +16,7 @@ impl Scripted for Played {
 
     ghost can_act = { ⊤ };
 
-    fn act(&mut self, alloc: Global, step: &mut Step<'_>) -> Result<(), Fail> {
+    fn act(&mut self, alloc: Global, step: &mut TextStep<'_>) -> Result<(), Fail> {
         let word = step.word();
         if is(word, b"open") {
             self.open(alloc, step);
@@ -33,7 +33,7 @@ impl Scripted for Played {
 
 impl Played {
     // Opens an empty lane over so many pages, of the shape of a step, and tells the status.
-    fn open(&mut self, alloc: Global, step: &mut Step<'_>) {
+    fn open(&mut self, alloc: Global, step: &mut TextStep<'_>) {
         let pages = step.small();
         match lane(alloc, &shape_of(step), pages) {
             Ok(lane) => {
@@ -45,7 +45,7 @@ impl Played {
     }
 
     // Makes a call of the lane.
-    fn call(&mut self, alloc: Global, word: &[u8], step: &mut Step<'_>) {
+    fn call(&mut self, alloc: Global, word: &[u8], step: &mut TextStep<'_>) {
         match &mut self.lane {
             Some(lane) => call(alloc, &mut **lane, &mut self.leases, word, step),
             None => step.refuse(),

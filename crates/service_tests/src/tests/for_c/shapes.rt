@@ -4,7 +4,7 @@ use c_lane::{KeyPlace, Sizes, WantedSizes, place_of};
 use cache_sizes::SizeFault;
 
 /// Takes a shape: the numbers of its fields, in their order.
-pub fn shape_of(step: &mut Step<'_>) -> LaneShape {
+pub fn shape_of(step: &mut TextStep<'_>) -> LaneShape {
     LaneShape {
         shards: step.small(),
         lanes: step.small(),
@@ -21,7 +21,7 @@ pub fn shape_of(step: &mut Step<'_>) -> LaneShape {
 }
 
 /// Takes a shape, and tells the number of the field at fault, or 0 for none.
-pub fn tell_fault(step: &mut Step<'_>) {
+pub fn tell_fault(step: &mut TextStep<'_>) {
     let shape = shape_of(step);
     let number = match shape.check() {
         Ok(_) => 0,
@@ -31,7 +31,7 @@ pub fn tell_fault(step: &mut Step<'_>) {
 }
 
 /// Takes how many bytes objects have, and a shape, completes it, and tells its threshold and its slots for leases.
-pub fn complete(step: &mut Step<'_>) {
+pub fn complete(step: &mut TextStep<'_>) {
     let object_bytes = step.small();
     let mut shape = shape_of(step);
     shape.complete(object_bytes);

@@ -34,7 +34,7 @@ fn counter_at(place: usize) -> Option<Counter> {
 }
 
 /// Tells the number of the counter that a step names.
-pub fn tell_count(counts: &Counts, step: &mut Step<'_>) {
+pub fn tell_count(counts: &Counts, step: &mut TextStep<'_>) {
     match counter_named(step.word()) {
         Some(counter) => step.tell_number(counts.of(counter)),
         None => step.refuse(),

@@ -15,7 +15,7 @@ pub fn call(
     lane: &mut Lane,
     leases: &mut [Lease; 2],
     word: &[u8],
-    step: &mut Step<'_>,
+    step: &mut TextStep<'_>,
 ) -> Result<(), Fail> {
     if is(word, b"put") {
         return put(alloc, lane, step);
@@ -34,7 +34,7 @@ pub fn call(
 }
 
 // The same of the calls that take no memory.
-fn simple(lane: &mut Lane, leases: &mut [Lease; 2], word: &[u8], step: &mut Step<'_>) {
+fn simple(lane: &mut Lane, leases: &mut [Lease; 2], word: &[u8], step: &mut TextStep<'_>) {
     if is(word, b"get") {
         get(lane, step);
     } else if is(word, b"remove") {
@@ -50,7 +50,7 @@ fn simple(lane: &mut Lane, leases: &mut [Lease; 2], word: &[u8], step: &mut Step
 }
 
 // The same of the calls of upkeep.
-fn tend(lane: &mut Lane, word: &[u8], step: &mut Step<'_>) {
+fn tend(lane: &mut Lane, word: &[u8], step: &mut TextStep<'_>) {
     if is(word, b"flush") {
         step.tell(name_of_flush(lane.flush_step()));
     } else if is(word, b"tend") {
@@ -63,7 +63,7 @@ fn tend(lane: &mut Lane, word: &[u8], step: &mut Step<'_>) {
 }
 
 // Puts a pair, once more if memory was refused, and tells what became of the pair that left memory.
-fn put(alloc: Global, lane: &mut Lane, step: &mut Step<'_>) -> Result<(), Fail> {
+fn put(alloc: Global, lane: &mut Lane, step: &mut TextStep<'_>) -> Result<(), Fail> {
     let name = step.bytes();
     let bytes = step.bytes();
     let expires = step.number_if_any().unwrap_or(NEVER);
@@ -86,14 +86,14 @@ fn put_once(
 }
 
 // Puts a pair, or else removes its key.
-fn put_or_remove(alloc: Global, lane: &mut Lane, step: &mut Step<'_>) -> Result<(), Fail> {
+fn put_or_remove(alloc: Global, lane: &mut Lane, step: &mut TextStep<'_>) -> Result<(), Fail> {
     let put = lane.put_or_remove(step.key(alloc)?, step.value(alloc)?, 0, NEVER);
     step.tell(name_of_put(put));
     Ok(())
 }
 
 // Takes the place of a lease.
-fn place_of(step: &mut Step<'_>) -> usize
+fn place_of(step: &mut TextStep<'_>) -> usize
     ensures { result < 2 }
 {
     step.small() as usize % 2
@@ -104,7 +104,7 @@ fn fill(
     alloc: Global,
     lane: &mut Lane,
     leases: &[Lease; 2],
-    step: &mut Step<'_>,
+    step: &mut TextStep<'_>,
 ) -> Result<(), Fail> {
     let lease = leases[place_of(step)];
     let name = step.bytes();
@@ -128,7 +128,7 @@ fn fill_once(
 }
 
 // Makes a whole move, once more if memory was refused, and tells what it did.
-fn move_whole(lane: &mut Lane, step: &mut Step<'_>) -> Result<(), Fail> {
+fn move_whole(lane: &mut Lane, step: &mut TextStep<'_>) -> Result<(), Fail> {
     let moved = match lane.move_whole(&Rriparoo) {
         Ok(moved) => moved,
         Err(_) => lane.move_whole(&Rriparoo)?,
@@ -138,7 +138,7 @@ fn move_whole(lane: &mut Lane, step: &mut Step<'_>) -> Result<(), Fail> {
 }
 
 // Looks a key up at a moment, and tells where its value was and the value, or why there is none. A miss leaves the buffer empty.
-fn get(lane: &mut Lane, step: &mut Step<'_>) {
+fn get(lane: &mut Lane, step: &mut TextStep<'_>) {
     let name = step.bytes();
     let moment = step.number();
     let mut found = ValueBuffer::empty();
@@ -150,20 +150,20 @@ fn get(lane: &mut Lane, step: &mut Step<'_>) {
 }
 
 // Removes a key, and tells why it was refused.
-fn remove(lane: &mut Lane, step: &mut Step<'_>) {
+fn remove(lane: &mut Lane, step: &mut TextStep<'_>) {
     if let Err(fault) = lane.remove(step.bytes().as_slice()) {
         step.tell(name_of_key_fault(fault));
     }
 }
 
 // Tells what a step of upkeep did, and `asked` and `due` if the device may have been asked and something is due after it.
-fn tell_upkeep(upkeep: &UpkeepStep, step: &mut Step<'_>) {
+fn tell_upkeep(upkeep: &UpkeepStep, step: &mut TextStep<'_>) {
     tell_did(upkeep.did, step);
     tell_if(upkeep.asked_device, b"asked", step);
     tell_if(upkeep.is_due, b"due", step);
 }
 
-fn tell_did(did: Upkept, step: &mut Step<'_>) {
+fn tell_did(did: Upkept, step: &mut TextStep<'_>) {
     match did {
         Upkept::Idle => step.tell(b"idle"),
         Upkept::Flushed(flushed) => {
@@ -179,12 +179,12 @@ fn tell_did(did: Upkept, step: &mut Step<'_>) {
 }
 
 // Tells how many steps were done in help, and `asked` if the device may have been asked.
-fn tell_help(helped: &Helped, step: &mut Step<'_>) {
+fn tell_help(helped: &Helped, step: &mut TextStep<'_>) {
     step.tell_number(u64::from(helped.steps));
     tell_if(helped.asked_device, b"asked", step);
 }
 
-fn tell_if(is_so: bool, name: &[u8], step: &mut Step<'_>) {
+fn tell_if(is_so: bool, name: &[u8], step: &mut TextStep<'_>) {
     if is_so {
         step.tell(name);
     }

@@ -10,7 +10,7 @@ use item_lane::{
 };
 use record_pages::{Key, ValueBuffer};
 use std::alloc::Global;
-use test_devices::{Step, is};
+use test_devices::{TextStep, is};
 
 /// Makes the command of a step, and tells what it gives.
 pub fn command(
@@ -18,7 +18,7 @@ pub fn command(
     alloc: Global,
     turn: CommandTurn,
     word: &[u8],
-    step: &mut Step<'_>,
+    step: &mut TextStep<'_>,
 ) {
     let key = step.word();
     if key.is_empty() || key.len() > Key::MAX_LEN {
@@ -55,7 +55,7 @@ fn store(
     mode: StoreMode,
     turn: CommandTurn,
     found: &mut ValueBuffer,
-    step: &mut Step<'_>,
+    step: &mut TextStep<'_>,
 )
     requires { IsKey key.now }
 {
@@ -81,7 +81,7 @@ fn other(
     word: &[u8],
     turn: CommandTurn,
     found: &mut ValueBuffer,
-    step: &mut Step<'_>,
+    step: &mut TextStep<'_>,
 )
     requires { IsKey key.now }
 {
@@ -111,7 +111,7 @@ fn other(
 }
 
 // Stores an item, whatever is there.
-fn put(lane: &mut Lane, alloc: Global, key: &[u8], turn: CommandTurn, step: &mut Step<'_>)
+fn put(lane: &mut Lane, alloc: Global, key: &[u8], turn: CommandTurn, step: &mut TextStep<'_>)
     requires { IsKey key.now }
 {
     let head = head_of(step);
@@ -131,7 +131,7 @@ fn count(
     change: Change,
     turn: CommandTurn,
     found: &mut ValueBuffer,
-    step: &mut Step<'_>,
+    step: &mut TextStep<'_>,
 )
     requires { IsKey key.now }
 {

@@ -6,7 +6,7 @@ use memcached_text::{RequestReader, StreamEvent};
 use record_pages::ValueBuffer;
 use std::alloc::{AllocError, Global};
 use std::test::Fail;
-use test_devices::{Step, is};
+use test_devices::{TextStep, is};
 
 /// Who hears a stream, and whether it is to be closed at its end.
 #[derive(Clone, Copy)]
@@ -62,7 +62,7 @@ pub fn hear_pieces(
     alloc: Global,
     hearing: Hearing,
     stream: &[u8],
-    step: &mut Step<'_>,
+    step: &mut TextStep<'_>,
 ) -> Result<(), Fail> {
     let first = step.small() as usize;
     let last = step.small() as usize;

@@ -4,14 +4,14 @@ use super::words::{data_of, rest_of};
 use memcached_text::{AnswerBytes, TextAnswer, TextRequest, append_answer, parse};
 use std::alloc::{AllocError, Global};
 use std::test::Fail;
-use test_devices::{Step, is};
+use test_devices::{TextStep, is};
 
 /// Makes a step of a stream.
 pub fn on_stream(
     alloc: Global,
     stream: &mut Vec<u8>,
     word: &[u8],
-    step: &mut Step<'_>,
+    step: &mut TextStep<'_>,
 ) -> Result<(), Fail> {
     if is(word, b"send") {
         stream.clear();
@@ -29,7 +29,7 @@ pub fn on_stream(
 }
 
 // Appends bytes by their numbers.
-fn append_numbers(stream: &mut Vec<u8>, step: &mut Step<'_>) -> Result<(), Fail> {
+fn append_numbers(stream: &mut Vec<u8>, step: &mut TextStep<'_>) -> Result<(), Fail> {
     for number in step.numbers().as_slice() {
         stream.push(u8::try_from(*number)?)?;
     }
@@ -37,7 +37,7 @@ fn append_numbers(stream: &mut Vec<u8>, step: &mut Step<'_>) -> Result<(), Fail>
 }
 
 // Tells what the stream asks for as a line, or what is answered to it.
-fn on_line(alloc: Global, stream: &[u8], word: &[u8], step: &mut Step<'_>) -> Result<(), Fail> {
+fn on_line(alloc: Global, stream: &[u8], word: &[u8], step: &mut TextStep<'_>) -> Result<(), Fail> {
     if is(word, b"asks") {
         step.tell(asked(alloc, stream)?.as_bytes());
     } else if is(word, b"flags") {
@@ -84,7 +84,7 @@ fn refusal_of(line: &[u8]) -> AnswerBytes {
 }
 
 /// Tells bytes, unless the words that are left spell them.
-pub fn compare(bytes: &[u8], step: &mut Step<'_>) {
+pub fn compare(bytes: &[u8], step: &mut TextStep<'_>) {
     if rest_of(step).as_slice() != bytes {
         step.tell(bytes);
     }

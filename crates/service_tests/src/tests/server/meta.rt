@@ -10,7 +10,7 @@ use item_lane::{
 };
 use record_pages::ValueBuffer;
 use std::alloc::Global;
-use test_devices::{Step, is};
+use test_devices::{TextStep, is};
 
 /// Makes the meta command of a step, and tells what it gives.
 pub fn meta_command(
@@ -20,7 +20,7 @@ pub fn meta_command(
     word: &[u8],
     turn: CommandTurn,
     found: &mut ValueBuffer,
-    step: &mut Step<'_>,
+    step: &mut TextStep<'_>,
 )
     requires { IsKey key.now }
 {
@@ -52,7 +52,7 @@ fn meta_store(
     invalidates: bool,
     turn: CommandTurn,
     found: &mut ValueBuffer,
-    step: &mut Step<'_>,
+    step: &mut TextStep<'_>,
 )
     requires { IsKey key.now }
 {
@@ -71,7 +71,7 @@ fn meta_store(
 }
 
 // Takes a mode.
-fn meta_mode_of(step: &mut Step<'_>) -> MetaMode {
+fn meta_mode_of(step: &mut TextStep<'_>) -> MetaMode {
     let word = step.word();
     if is(word, b"add") {
         return MetaMode::Add;
@@ -92,7 +92,7 @@ fn meta_mode_of(step: &mut Step<'_>) -> MetaMode {
 }
 
 // Takes the cas unique and the change of expiry of an item that is marked as stale, if it is.
-fn invalidation_of(invalidates: bool, step: &mut Step<'_>) -> Option<Invalidation> {
+fn invalidation_of(invalidates: bool, step: &mut TextStep<'_>) -> Option<Invalidation> {
     if !invalidates {
         return None;
     }
@@ -103,7 +103,7 @@ fn invalidation_of(invalidates: bool, step: &mut Step<'_>) -> Option<Invalidatio
 }
 
 // Takes a change of expiry: `stays`, or `to` and the new one.
-fn touch_of(step: &mut Step<'_>) -> ExpiryChange {
+fn touch_of(step: &mut TextStep<'_>) -> ExpiryChange {
     let word = step.word();
     if is(word, b"stays") {
         return ExpiryChange::Stays;
@@ -115,13 +115,13 @@ fn touch_of(step: &mut Step<'_>) -> ExpiryChange {
 }
 
 // Takes a new expiry.
-fn becomes(step: &mut Step<'_>) -> ExpiryChange {
+fn becomes(step: &mut TextStep<'_>) -> ExpiryChange {
     ExpiryChange::Becomes(expiry_of(step))
 }
 
 // Takes a change of a number: how much, the cas unique that the item gets, the one to compare, the change of its expiry, and what a
 // miss stores, if anything.
-fn meta_delta_of(is_up: bool, step: &mut Step<'_>) -> MetaDelta {
+fn meta_delta_of(is_up: bool, step: &mut TextStep<'_>) -> MetaDelta {
     let amount = step.number();
     MetaDelta {
         change: if is_up {
@@ -137,7 +137,7 @@ fn meta_delta_of(is_up: bool, step: &mut Step<'_>) -> MetaDelta {
 }
 
 // Takes the number that a miss stores and its expiry, or `none`.
-fn initial_of(step: &mut Step<'_>) -> Option<InitialNumber> {
+fn initial_of(step: &mut TextStep<'_>) -> Option<InitialNumber> {
     let number = number_or(step, b"none")?;
     Some(InitialNumber {
         number,
@@ -146,7 +146,7 @@ fn initial_of(step: &mut Step<'_>) -> Option<InitialNumber> {
 }
 
 // Takes what the flags of a meta get ask for: `T` an expiry, `N` an expiry and a cas unique, and `R` a moment.
-fn meta_get_of(word: &[u8], step: &mut Step<'_>) -> MetaGet {
+fn meta_get_of(word: &[u8], step: &mut TextStep<'_>) -> MetaGet {
     let mut request = MetaGet {
         touch: ExpiryChange::Stays,
         vivify: None,
@@ -171,7 +171,7 @@ fn meta_get_of(word: &[u8], step: &mut Step<'_>) -> MetaGet {
 }
 
 // Takes the expiry and the cas unique of what a miss stores.
-fn vivify_of(step: &mut Step<'_>) -> Vivify {
+fn vivify_of(step: &mut TextStep<'_>) -> Vivify {
     Vivify {
         expires: expiry_of(step),
         cas: step.number(),
@@ -179,7 +179,7 @@ fn vivify_of(step: &mut Step<'_>) -> Vivify {
 }
 
 // Takes the moment before which an item that ends is to be refreshed.
-fn recache_of(is_after_touch: bool, step: &mut Step<'_>) -> Recache {
+fn recache_of(is_after_touch: bool, step: &mut TextStep<'_>) -> Recache {
     Recache {
         before: step.small(),
         is_after_touch,

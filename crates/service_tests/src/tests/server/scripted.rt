@@ -8,7 +8,7 @@ use record_pages::Config;
 use service_lane::ServiceLane;
 use std::alloc::{AllocError, Global};
 use std::test::Fail;
-use test_devices::{Scripted, Step, is, run_text};
+use test_devices::{Scripted, TextStep, is, run_text};
 
 /// The lanes of these tests.
 pub type Lane = ServiceLane<MemoryDevice<4096>, 4096>;
@@ -26,7 +26,7 @@ impl Scripted for Server {
 
     ghost can_act = { ⊤ };
 
-    fn act(&mut self, alloc: Global, step: &mut Step<'_>) -> Result<(), Fail> {
+    fn act(&mut self, alloc: Global, step: &mut TextStep<'_>) -> Result<(), Fail> {
         let word = step.word();
         if is(word, b"open") {
             self.lane = Some(new_lane(alloc, step.small())?);
@@ -43,7 +43,7 @@ impl Scripted for Server {
 }
 
 // Takes a moment, and the number of the last flush.
-fn turn_of(step: &mut Step<'_>) -> CommandTurn {
+fn turn_of(step: &mut TextStep<'_>) -> CommandTurn {
     CommandTurn {
         moment: step.number(),
         flushed: step.number(),

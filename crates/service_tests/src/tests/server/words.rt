@@ -2,7 +2,7 @@
 use arrayvec::ArrayVec;
 use item_lane::{CacheItem, CommandReply, Head, ItemMarks};
 use record_pages::PutFault;
-use test_devices::{Spelled, Step, is};
+use test_devices::{Spelled, TextStep, is};
 
 /// The byte that a byte of a word spells: a blank if it is `~`, a line feed if it is `$`.
 fn spelled(byte: u8) -> u8 {
@@ -27,7 +27,7 @@ fn spell(word: &[u8], bytes: &mut Spelled) -> bool {
 }
 
 /// Takes the next word, and gives what it spells.
-pub fn data_of(step: &mut Step<'_>) -> Spelled {
+pub fn data_of(step: &mut TextStep<'_>) -> Spelled {
     let mut data = ArrayVec::new();
     if !spell(step.bytes().as_slice(), &mut data) {
         step.refuse();
@@ -36,7 +36,7 @@ pub fn data_of(step: &mut Step<'_>) -> Spelled {
 }
 
 /// Takes the words that are left, and gives what they spell, with a blank between two.
-pub fn rest_of(step: &mut Step<'_>) -> Spelled {
+pub fn rest_of(step: &mut TextStep<'_>) -> Spelled {
     let mut bytes = ArrayVec::new();
     for _ in 0..MAX_WORDS {
         let word = step.word();
@@ -54,7 +54,7 @@ pub fn rest_of(step: &mut Step<'_>) -> Spelled {
 const MAX_WORDS: usize = 4096;
 
 /// Takes a number, or the word that stands for none.
-pub fn number_or(step: &mut Step<'_>, name: &[u8]) -> Option<u64> {
+pub fn number_or(step: &mut TextStep<'_>, name: &[u8]) -> Option<u64> {
     let number = step.number_if_any();
     if number.is_none() && !is(step.word(), name) {
         step.refuse();
@@ -63,7 +63,7 @@ pub fn number_or(step: &mut Step<'_>, name: &[u8]) -> Option<u64> {
 }
 
 /// Takes an expiry: a number of 32 bits, or `never`.
-pub fn expiry_of(step: &mut Step<'_>) -> Option<u32> {
+pub fn expiry_of(step: &mut TextStep<'_>) -> Option<u32> {
     let number = number_or(step, b"never")?;
     match u32::try_from(number) {
         Ok(expiry) => Some(expiry),
@@ -75,7 +75,7 @@ pub fn expiry_of(step: &mut Step<'_>) -> Option<u32> {
 }
 
 /// Takes the head of an item that is neither stale nor won: its flags, its cas unique, and its expiry.
-pub fn head_of(step: &mut Step<'_>) -> Head {
+pub fn head_of(step: &mut TextStep<'_>) -> Head {
     Head {
         flags: step.small(),
         cas: step.number(),
@@ -86,7 +86,7 @@ pub fn head_of(step: &mut Step<'_>) -> Head {
 }
 
 /// Tells an item: its flags, its cas unique, its expiry, its data with `~` for each blank, and its marks; or `none`.
-pub fn tell_item(item: Option<CacheItem<'_>>, step: &mut Step<'_>) {
+pub fn tell_item(item: Option<CacheItem<'_>>, step: &mut TextStep<'_>) {
     let Some(item) = item else {
         step.tell(b"none");
         return;
@@ -112,14 +112,14 @@ fn without_blanks(data: &[u8]) -> Spelled {
 }
 
 // Tells a word if something holds.
-fn tell_if(holds: bool, name: &[u8], step: &mut Step<'_>) {
+fn tell_if(holds: bool, name: &[u8], step: &mut TextStep<'_>) {
     if holds {
         step.tell(name);
     }
 }
 
 /// Tells the reply to a command.
-pub fn tell_reply(reply: Result<CommandReply, PutFault>, step: &mut Step<'_>) {
+pub fn tell_reply(reply: Result<CommandReply, PutFault>, step: &mut TextStep<'_>) {
     match reply {
         Ok(CommandReply::Number(number)) => {
             step.tell(b"number");
@@ -133,7 +133,7 @@ pub fn tell_reply(reply: Result<CommandReply, PutFault>, step: &mut Step<'_>) {
 }
 
 // Tells what is said of an item that there is.
-fn tell_marks(marks: ItemMarks, step: &mut Step<'_>) {
+fn tell_marks(marks: ItemMarks, step: &mut TextStep<'_>) {
     step.tell(b"found");
     tell_if(marks.is_stale, b"X", step);
     tell_if(marks.has_won, b"W", step);

@@ -10,7 +10,7 @@ impl<D: PageDevice<PAGE>, const PAGE: usize> Scripted for Owner<D, PAGE> {
 
     ghost can_act = { IsPageSize PAGE };
 
-    fn act(&mut self, alloc: Global, step: &mut Step<'_>) -> Result<(), Fail> {
+    fn act(&mut self, alloc: Global, step: &mut TextStep<'_>) -> Result<(), Fail> {
         let word = step.word();
         call(alloc, self, word, step)
     }
@@ -21,7 +21,7 @@ pub fn call<D: PageDevice<PAGE>, const PAGE: usize>(
     alloc: Global,
     owner: &mut Owner<D, PAGE>,
     word: &[u8],
-    step: &mut Step<'_>,
+    step: &mut TextStep<'_>,
 ) -> Result<(), Fail>
     requires { IsPageSize PAGE }
 {
@@ -48,7 +48,7 @@ pub fn call<D: PageDevice<PAGE>, const PAGE: usize>(
 fn simple<D: PageDevice<PAGE>, const PAGE: usize>(
     owner: &mut Owner<D, PAGE>,
     word: &[u8],
-    step: &mut Step<'_>,
+    step: &mut TextStep<'_>,
 )
     requires { IsPageSize PAGE }
 {
@@ -85,7 +85,7 @@ fn simple<D: PageDevice<PAGE>, const PAGE: usize>(
 fn append<D: PageDevice<PAGE>, const PAGE: usize>(
     alloc: Global,
     owner: &mut Owner<D, PAGE>,
-    step: &mut Step<'_>,
+    step: &mut TextStep<'_>,
 ) -> Result<(), Fail>
     requires { IsPageSize PAGE }
 {
@@ -100,7 +100,7 @@ fn append<D: PageDevice<PAGE>, const PAGE: usize>(
 fn look<D: PageDevice<PAGE>, const PAGE: usize>(
     alloc: Global,
     owner: &mut Owner<D, PAGE>,
-    step: &mut Step<'_>,
+    step: &mut TextStep<'_>,
     moment: u64,
 ) -> Result<(), Fail>
     requires { IsPageSize PAGE }
@@ -131,7 +131,7 @@ pub fn take<D: PageDevice<PAGE>, const PAGE: usize>(
 // then, or why there is none.
 fn locate<D: PageDevice<PAGE>, const PAGE: usize>(
     owner: &mut Owner<D, PAGE>,
-    step: &mut Step<'_>,
+    step: &mut TextStep<'_>,
     moment: u64,
 )
     requires { IsPageSize PAGE }
@@ -152,7 +152,7 @@ fn locate<D: PageDevice<PAGE>, const PAGE: usize>(
 }
 
 // Tells why no entry was located; the buffer stays as it was.
-fn tell_missed(located: LocatedInLog, found: &ValueBuffer, step: &mut Step<'_>) {
+fn tell_missed(located: LocatedInLog, found: &ValueBuffer, step: &mut TextStep<'_>) {
     step.tell(name_of_missed(located));
     if found.bytes() != WAS_HELD {
         step.refuse();
@@ -165,7 +165,10 @@ fn is_of(entry: &Entry, placed: &Placed) -> bool {
 }
 
 // Touches the entry of the bytes of a key, which has to have one.
-fn touch<D: PageDevice<PAGE>, const PAGE: usize>(owner: &mut Owner<D, PAGE>, step: &mut Step<'_>)
+fn touch<D: PageDevice<PAGE>, const PAGE: usize>(
+    owner: &mut Owner<D, PAGE>,
+    step: &mut TextStep<'_>,
+)
     requires { IsPageSize PAGE }
 {
     let mut found = ValueBuffer::empty();
@@ -176,7 +179,7 @@ fn touch<D: PageDevice<PAGE>, const PAGE: usize>(owner: &mut Owner<D, PAGE>, ste
 }
 
 // Tells the first live record of the oldest segment by its set, its tag, its place and its prediction, or why there is none.
-fn tell_oldest(oldest: Oldest, step: &mut Step<'_>) {
+fn tell_oldest(oldest: Oldest, step: &mut TextStep<'_>) {
     match oldest {
         Oldest::First(entry) => {
             step.tell_number(u64::from(entry.set));
@@ -188,7 +191,10 @@ fn tell_oldest(oldest: Oldest, step: &mut Step<'_>) {
 }
 
 // Tells the set and the slot of the first live record of the oldest segment that is of none of these sets, or why there is none.
-fn oldest_but<D: PageDevice<PAGE>, const PAGE: usize>(owner: &Owner<D, PAGE>, step: &mut Step<'_>) {
+fn oldest_but<D: PageDevice<PAGE>, const PAGE: usize>(
+    owner: &Owner<D, PAGE>,
+    step: &mut TextStep<'_>,
+) {
     match owner.oldest_but(step.numbers().as_slice()) {
         Oldest::First(entry) => {
             step.tell(b"set");
@@ -201,13 +207,13 @@ fn oldest_but<D: PageDevice<PAGE>, const PAGE: usize>(owner: &Owner<D, PAGE>, st
 }
 
 // Tells the place and the prediction of an entry.
-fn tell_entry(entry: &Entry, step: &mut Step<'_>) {
+fn tell_entry(entry: &Entry, step: &mut TextStep<'_>) {
     tell_place(entry.place, step);
     step.tell_number(u64::from(entry.prediction.get()));
 }
 
 // Tells the segment, the page and the slot of a place.
-fn tell_place(place: Place, step: &mut Step<'_>) {
+fn tell_place(place: Place, step: &mut TextStep<'_>) {
     step.tell(b"at");
     step.tell_number(u64::from(place.segment));
     step.tell_number(u64::from(place.page));
@@ -215,7 +221,7 @@ fn tell_place(place: Place, step: &mut Step<'_>) {
 }
 
 // Tells the records that were taken, in their order.
-fn tell_taken(taken: &SetTaken, step: &mut Step<'_>) {
+fn tell_taken(taken: &SetTaken, step: &mut TextStep<'_>) {
     let SetTaken::Records(records) = taken else {
         step.tell(b"page lost");
         return;
@@ -229,7 +235,7 @@ fn tell_taken(taken: &SetTaken, step: &mut Step<'_>) {
 }
 
 // Tells a record that was taken by its key, its value, its place, its prediction and the number of its segment.
-fn tell_record(record: &TakenRecord, step: &mut Step<'_>) {
+fn tell_record(record: &TakenRecord, step: &mut TextStep<'_>) {
     step.tell_pair(record.stored.key.bytes(), record.stored.value.value.bytes());
     tell_place(record.place, step);
     step.tell_number(u64::from(record.stored.pred.get()));

@@ -18,7 +18,7 @@ impl Scripted for Played {
 
     ghost can_act = { ⊤ };
 
-    fn act(&mut self, alloc: Global, step: &mut Step<'_>) -> Result<(), Fail> {
+    fn act(&mut self, alloc: Global, step: &mut TextStep<'_>) -> Result<(), Fail> {
         let word = step.word();
         if is(word, b"config") {
             return self.open(alloc, step);
@@ -36,7 +36,7 @@ impl Scripted for Played {
 
 impl Played {
     // The call of the next device that is refused.
-    fn refuse(&mut self, for_good: bool, step: &mut Step<'_>) {
+    fn refuse(&mut self, for_good: bool, step: &mut TextStep<'_>) {
         self.refused = Refused {
             call: step.small(),
             for_good,
@@ -44,7 +44,7 @@ impl Played {
     }
 
     // Opens a log of the configuration of a step, over a device of zeros with just the pages that it needs.
-    fn open(&mut self, alloc: Global, step: &mut Step<'_>) -> Result<(), Fail> {
+    fn open(&mut self, alloc: Global, step: &mut TextStep<'_>) -> Result<(), Fail> {
         let config = step.config();
         self.owner = Some(opened(alloc, &config, self.refused)?);
         self.refused = NONE_REFUSED;
@@ -58,7 +58,7 @@ fn call_or_hold(
     owner: &mut Owner<Tried, 256>,
     taken: &mut Option<TakenRecords>,
     word: &[u8],
-    step: &mut Step<'_>,
+    step: &mut TextStep<'_>,
 ) -> Result<(), Fail> {
     if is(word, b"hold") {
         *taken = Some(records(take(alloc, owner)?)?);

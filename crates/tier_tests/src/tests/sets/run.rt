@@ -9,7 +9,7 @@ impl<D: PageDevice<PAGE>, const PAGE: usize> Scripted for Owner<D, PAGE> {
 
     ghost can_act = { IsPageSize PAGE };
 
-    fn act(&mut self, alloc: Global, step: &mut Step<'_>) -> Result<(), Fail> {
+    fn act(&mut self, alloc: Global, step: &mut TextStep<'_>) -> Result<(), Fail> {
         let word = step.word();
         call(alloc, self, word, step)
     }
@@ -20,7 +20,7 @@ pub fn call<D: PageDevice<PAGE>, const PAGE: usize>(
     alloc: Global,
     owner: &mut Owner<D, PAGE>,
     word: &[u8],
-    step: &mut Step<'_>,
+    step: &mut TextStep<'_>,
 ) -> Result<(), Fail>
     requires { IsPageSize PAGE }
 {
@@ -46,7 +46,7 @@ fn of_set<D: PageDevice<PAGE>, const PAGE: usize>(
     owner: &mut Owner<D, PAGE>,
     key: &Key,
     word: &[u8],
-    step: &mut Step<'_>,
+    step: &mut TextStep<'_>,
 ) -> Result<(), Fail>
     requires { IsPageSize PAGE }
 {
@@ -68,7 +68,7 @@ fn of_set<D: PageDevice<PAGE>, const PAGE: usize>(
 fn simple<D: PageDevice<PAGE>, const PAGE: usize>(
     owner: &mut Owner<D, PAGE>,
     word: &[u8],
-    step: &mut Step<'_>,
+    step: &mut TextStep<'_>,
 )
     requires { IsPageSize PAGE }
 {
@@ -87,7 +87,7 @@ fn simple<D: PageDevice<PAGE>, const PAGE: usize>(
 fn look<D: PageDevice<PAGE>, const PAGE: usize>(
     alloc: Global,
     owner: &mut Owner<D, PAGE>,
-    step: &mut Step<'_>,
+    step: &mut TextStep<'_>,
     moment: u64,
 ) -> Result<(), Fail>
     requires { IsPageSize PAGE }
@@ -120,7 +120,7 @@ fn tell_read<D: PageDevice<PAGE>, const PAGE: usize>(
     alloc: Global,
     owner: &mut Owner<D, PAGE>,
     key: &Key,
-    step: &mut Step<'_>,
+    step: &mut TextStep<'_>,
 ) -> Result<(), Fail>
     requires { IsPageSize PAGE }
 {
@@ -139,7 +139,7 @@ fn tell_read<D: PageDevice<PAGE>, const PAGE: usize>(
 }
 
 // Tells a record by its key and its value, and whether it was hit; it has the prediction that a record enters the log with.
-fn tell_record(record: &SetRecord, step: &mut Step<'_>) {
+fn tell_record(record: &SetRecord, step: &mut TextStep<'_>) {
     step.tell_pair(record.stored.key.bytes(), record.stored.value.value.bytes());
     if record.hit {
         step.tell(b"hit");
@@ -154,7 +154,7 @@ fn write<D: PageDevice<PAGE>, const PAGE: usize>(
     alloc: Global,
     owner: &mut Owner<D, PAGE>,
     key: &Key,
-    step: &mut Step<'_>,
+    step: &mut TextStep<'_>,
 ) -> Result<(), Fail>
     requires { IsPageSize PAGE }
 {
@@ -193,7 +193,7 @@ pub fn push<const PAGE: usize>(writer: &mut SetPageWriter<PAGE>, record: &Record
 // Locates the bytes of a key at a moment, and tells the slot and the value that is in the buffer then, or why there is none.
 fn locate<D: PageDevice<PAGE>, const PAGE: usize>(
     owner: &mut Owner<D, PAGE>,
-    step: &mut Step<'_>,
+    step: &mut TextStep<'_>,
     moment: u64,
 )
     requires { IsPageSize PAGE }
@@ -213,7 +213,7 @@ fn locate<D: PageDevice<PAGE>, const PAGE: usize>(
 }
 
 // Tells why no slot was located; the buffer stays as it was.
-fn tell_missed(located: LocatedInSet, found: &ValueBuffer, step: &mut Step<'_>) {
+fn tell_missed(located: LocatedInSet, found: &ValueBuffer, step: &mut TextStep<'_>) {
     step.tell(match located {
         LocatedInSet::Hit { .. } => b"hit",
         LocatedInSet::Absent => b"absent",
@@ -227,7 +227,10 @@ fn tell_missed(located: LocatedInSet, found: &ValueBuffer, step: &mut Step<'_>) 
 }
 
 // Touches a slot of a key's set, which a page can have.
-fn touch<D: PageDevice<PAGE>, const PAGE: usize>(owner: &mut Owner<D, PAGE>, step: &mut Step<'_>) {
+fn touch<D: PageDevice<PAGE>, const PAGE: usize>(
+    owner: &mut Owner<D, PAGE>,
+    step: &mut TextStep<'_>,
+) {
     let key = step.bytes();
     let slot = step.small() as usize;
     if slot < MAX_SET_RECORDS {

@@ -18,7 +18,7 @@ impl Scripted for Played {
 
     ghost can_act = { ⊤ };
 
-    fn act(&mut self, alloc: Global, step: &mut Step<'_>) -> Result<(), Fail> {
+    fn act(&mut self, alloc: Global, step: &mut TextStep<'_>) -> Result<(), Fail> {
         let word = step.word();
         if is(word, b"config") {
             return self.open(alloc, step);
@@ -40,7 +40,7 @@ impl Scripted for Played {
 
 impl Played {
     // The call of the next device that is refused.
-    fn refuse(&mut self, for_good: bool, step: &mut Step<'_>) {
+    fn refuse(&mut self, for_good: bool, step: &mut TextStep<'_>) {
         self.refused = Refused {
             call: step.small(),
             for_good,
@@ -48,7 +48,7 @@ impl Played {
     }
 
     // Opens empty sets of the configuration of a step, over a device of zeros.
-    fn open(&mut self, alloc: Global, step: &mut Step<'_>) -> Result<(), Fail> {
+    fn open(&mut self, alloc: Global, step: &mut TextStep<'_>) -> Result<(), Fail> {
         let layout = layout(&step.config())?;
         let strikes = self.strikes.unwrap_or(8 * layout.sets);
         self.owner = Some(opened(alloc, &layout, strikes, self.refused)?);
@@ -63,7 +63,7 @@ fn call_or_ask(
     alloc: Global,
     owner: &mut Owner<Tried, 256>,
     word: &[u8],
-    step: &mut Step<'_>,
+    step: &mut TextStep<'_>,
 ) -> Result<(), Fail> {
     if is(word, b"asked") {
         step.tell(owner.device().asked());

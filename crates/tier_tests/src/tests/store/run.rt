@@ -11,7 +11,7 @@ pub fn call<D: PageDevice<PAGE>, const PAGE: usize>(
     alloc: Global,
     store: &mut Store<D, PAGE>,
     word: &[u8],
-    step: &mut Step<'_>,
+    step: &mut TextStep<'_>,
 ) -> Result<(), Fail> {
     if is(word, b"put") {
         return put(alloc, store, step);
@@ -45,7 +45,7 @@ pub fn call<D: PageDevice<PAGE>, const PAGE: usize>(
 fn simple<D: PageDevice<PAGE>, const PAGE: usize>(
     store: &mut Store<D, PAGE>,
     word: &[u8],
-    step: &mut Step<'_>,
+    step: &mut TextStep<'_>,
 ) {
     if is(word, b"get-into") {
         get_into(store, step, EXPIRES - 1);
@@ -67,7 +67,7 @@ fn simple<D: PageDevice<PAGE>, const PAGE: usize>(
 fn put<D: PageDevice<PAGE>, const PAGE: usize>(
     alloc: Global,
     store: &mut Store<D, PAGE>,
-    step: &mut Step<'_>,
+    step: &mut TextStep<'_>,
 ) -> Result<(), Fail> {
     let name = step.bytes();
     let bytes = step.bytes();
@@ -86,7 +86,7 @@ fn put<D: PageDevice<PAGE>, const PAGE: usize>(
 fn put_back<D: PageDevice<PAGE>, const PAGE: usize>(
     alloc: Global,
     store: &mut Store<D, PAGE>,
-    step: &mut Step<'_>,
+    step: &mut TextStep<'_>,
 ) -> Result<(), Fail> {
     let pair = Pair {
         key: step.key(alloc)?,
@@ -109,7 +109,7 @@ fn put_back<D: PageDevice<PAGE>, const PAGE: usize>(
 fn get<D: PageDevice<PAGE>, const PAGE: usize>(
     alloc: Global,
     store: &mut Store<D, PAGE>,
-    step: &mut Step<'_>,
+    step: &mut TextStep<'_>,
     moment: u64,
 ) -> Result<(), Fail> {
     let key = step.key(alloc)?;
@@ -124,7 +124,7 @@ fn get<D: PageDevice<PAGE>, const PAGE: usize>(
     Ok(())
 }
 
-fn tell_hit(tier: Tier, bytes: &[u8], step: &mut Step<'_>) {
+fn tell_hit(tier: Tier, bytes: &[u8], step: &mut TextStep<'_>) {
     step.tell(name_of_tier(tier));
     step.tell(bytes);
 }
@@ -133,7 +133,7 @@ fn tell_hit(tier: Tier, bytes: &[u8], step: &mut Step<'_>) {
 // the buffer as it was.
 fn get_into<D: PageDevice<PAGE>, const PAGE: usize>(
     store: &mut Store<D, PAGE>,
-    step: &mut Step<'_>,
+    step: &mut TextStep<'_>,
     moment: u64,
 ) {
     let mut found = ValueBuffer::empty();
@@ -159,7 +159,7 @@ fn remove<D: PageDevice<PAGE>, const PAGE: usize>(
     alloc: Global,
     store: &mut Store<D, PAGE>,
     word: &[u8],
-    step: &mut Step<'_>,
+    step: &mut TextStep<'_>,
 ) -> Result<(), Fail> {
     let key = step.key(alloc)?;
     if is(word, b"remove") {
@@ -173,7 +173,7 @@ fn remove<D: PageDevice<PAGE>, const PAGE: usize>(
 // Makes a whole move, and tells what it did.
 fn move_whole<D: PageDevice<PAGE>, const PAGE: usize>(
     store: &mut Store<D, PAGE>,
-    step: &mut Step<'_>,
+    step: &mut TextStep<'_>,
 ) -> Result<(), Fail> {
     let moved = match store.move_whole(&Rriparoo) {
         Ok(moved) => moved,
@@ -187,7 +187,7 @@ fn move_whole<D: PageDevice<PAGE>, const PAGE: usize>(
 fn begin<D: PageDevice<PAGE>, const PAGE: usize>(
     store: &mut Store<D, PAGE>,
     word: &[u8],
-    step: &mut Step<'_>,
+    step: &mut TextStep<'_>,
 ) -> Result<(), Fail> {
     let begun = match store.move_begin() {
         Ok(begun) => begun,
@@ -206,7 +206,7 @@ fn begin<D: PageDevice<PAGE>, const PAGE: usize>(
 fn commit<D: PageDevice<PAGE>, const PAGE: usize>(
     alloc: Global,
     store: &mut Store<D, PAGE>,
-    step: &mut Step<'_>,
+    step: &mut TextStep<'_>,
 ) -> Result<(), Fail> {
     let number = step.number();
     let mut plan = Plan::new(alloc);
@@ -230,7 +230,7 @@ fn keep(plan: &mut Plan, item: usize) -> Result<(), Fail> {
 }
 
 // Tells how a move began: a job by its number, its set, its room and its items.
-fn tell_begun(begun: &Begin, step: &mut Step<'_>) {
+fn tell_begun(begun: &Begin, step: &mut TextStep<'_>) {
     match begun {
         Begin::Job(job) => {
             step.tell_number(job.number);
@@ -243,7 +243,7 @@ fn tell_begun(begun: &Begin, step: &mut Step<'_>) {
 }
 
 // Tells how a move began: a job by its number, and how many items it has.
-fn tell_count(begun: &Begin, step: &mut Step<'_>) {
+fn tell_count(begun: &Begin, step: &mut TextStep<'_>) {
     match begun {
         Begin::Job(job) => {
             step.tell_number(job.number);
@@ -254,14 +254,14 @@ fn tell_count(begun: &Begin, step: &mut Step<'_>) {
 }
 
 // Tells the items of a job, in their order.
-fn tell_items(job: &Job, step: &mut Step<'_>) {
+fn tell_items(job: &Job, step: &mut TextStep<'_>) {
     for number in 0..job.items.len() {
         tell_item(*job.items.at(number), step);
     }
 }
 
 // Tells an item by its size and its prediction, and whether it was hit and is fresh.
-fn tell_item(item: Item, step: &mut Step<'_>) {
+fn tell_item(item: Item, step: &mut TextStep<'_>) {
     step.tell_number(u64::from(item.size));
     step.tell_number(u64::from(item.prediction.get()));
     if item.hit {

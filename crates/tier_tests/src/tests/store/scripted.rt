@@ -23,7 +23,7 @@ impl Scripted for Played {
 
     ghost can_act = { ⊤ };
 
-    fn act(&mut self, alloc: Global, step: &mut Step<'_>) -> Result<(), Fail> {
+    fn act(&mut self, alloc: Global, step: &mut TextStep<'_>) -> Result<(), Fail> {
         let word = step.word();
         if is(word, b"config") {
             return self.open(alloc, step);
@@ -45,7 +45,7 @@ impl Scripted for Played {
 
 impl Played {
     // Makes a call of the store, or tells what the calls since the opening asked of the device, in this order.
-    fn call(&mut self, alloc: Global, word: &[u8], step: &mut Step<'_>) -> Result<(), Fail> {
+    fn call(&mut self, alloc: Global, word: &[u8], step: &mut TextStep<'_>) -> Result<(), Fail> {
         let Some(store) = &mut self.store else {
             step.refuse();
             return Ok(());
@@ -58,7 +58,7 @@ impl Played {
     }
 
     // Opens an empty store of the configuration of a step, over a device of zeros with just the pages that it needs.
-    fn open(&mut self, alloc: Global, step: &mut Step<'_>) -> Result<(), Fail> {
+    fn open(&mut self, alloc: Global, step: &mut TextStep<'_>) -> Result<(), Fail> {
         self.config = step.config();
         self.store = match self.opened(alloc) {
             Ok(store) => Some(store),

@@ -20,16 +20,16 @@ pub fn is(word: &[u8], name: &[u8]) -> bool {
 /// A step of a text: the words of a call, and after them those of its answer. Who makes the call takes its words, and tells the
 /// answer; then the answer has to be what the words that are left spell.
 #[derive(Drop)]
-pub struct Step<'a> {
+pub struct TextStep<'a> {
     left: &'a [u8],
     told: Spelled,
     is_bad: bool,
 }
 
-impl<'a> Step<'a> {
+impl<'a> TextStep<'a> {
     /// A step of which no word was taken, and for which nothing was told.
     pub(crate) fn new(bytes: &'a [u8]) -> Self {
-        Step {
+        TextStep {
             left: without_blanks(bytes),
             told: ArrayVec::new(),
             is_bad: false,
@@ -38,7 +38,7 @@ impl<'a> Step<'a> {
 
     // A step that is no call.
     pub(crate) fn refused() -> Self {
-        let mut step = Step::new(&[]);
+        let mut step = TextStep::new(&[]);
         step.refuse();
         step
     }
@@ -162,7 +162,7 @@ impl<'a> Step<'a> {
     }
 }
 
-impl<'a> Step<'a> {
+impl<'a> TextStep<'a> {
     // Whether it has a word.
     pub(crate) fn has_words(&self) -> bool {
         !self.left.is_empty()
@@ -185,7 +185,7 @@ impl<'a> Step<'a> {
 }
 
 // Spells the words that are left, and says whether there was room.
-fn spell_words(step: &mut Step<'_>, wanted: &mut Spelled) -> bool {
+fn spell_words(step: &mut TextStep<'_>, wanted: &mut Spelled) -> bool {
     for _ in 0..step.left.len() {
         let word = step.word();
         if word.is_empty() {
