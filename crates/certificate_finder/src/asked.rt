@@ -3,7 +3,8 @@ ghost use Rattle.std.specs.Prelude.{◌^◌, ◌<◌, IfOk, OnOk, length};
 ghost use Rattle.certificate_finder.specs.Asking.{AreAsked, Asking, TellsHit};
 ghost use Rattle.certificate_finder.specs.Lists.{GrowsBy, Lists};
 
-use crate::numbered_call::{NumberedCall, step_at};
+use crate::items::item_at;
+use crate::numbered_call::NumberedCall;
 use crate::put::value_rank;
 use crate::ranked::Ranked;
 use std::alloc::{AllocError, Global};
@@ -25,7 +26,7 @@ fn listed_hits(alloc: Global, steps: &[NumberedCall]) -> Result<Vec<Ranked>, All
 {
     let mut hits = Vec::new(alloc);
     for position in 0..steps.len() {
-        let step = step_at(steps, position);
+        let step = item_at(steps, position);
         list_hit(&mut hits, position as u32, &step)?;
     }
     Ok(hits)

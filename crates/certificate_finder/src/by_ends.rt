@@ -6,9 +6,10 @@ ghost use Rattle.certificate_finder.specs.Unreading.{AreByEnds, AreEndZones, Are
 ghost use Rattle.certificate_finder.specs.Writing.{IsSplitBelow};
 ghost use Rattle.certificate_finder.specs.Zones.{AreDistinct, IsFitZone};
 
+use crate::items::item_at;
 use crate::numbered_call::NumberedCall;
 use crate::write::key_rank;
-use crate::zone::{Zone, zone_at};
+use crate::zone::Zone;
 use crate::zoning::zones_of;
 use std::alloc::{AllocError, Global};
 
@@ -98,8 +99,8 @@ fn next_top(zones: &[Zone], top: Top, index: usize) -> Top
     requires top { IsTop zones.now (index - 1) top }
     ensures { IsTop zones.now index result }
 {
-    let zone = zone_at(zones, index);
-    let first = zone_at(zones, top.first as usize);
+    let zone = item_at(zones, index);
+    let first = item_at(zones, top.first as usize);
     if zone.key != first.key {
         return Top {
             first: index as u32,
@@ -112,7 +113,7 @@ fn next_top(zones: &[Zone], top: Top, index: usize) -> Top
             second: top.first,
         };
     }
-    let second = zone_at(zones, top.second as usize);
+    let second = item_at(zones, top.second as usize);
     if top.second == top.first || second.start < zone.start {
         return Top {
             first: top.first,
@@ -128,14 +129,6 @@ fn zones_below(zones: &[Zone], limit: u128) -> usize
     ensures { IsSplitBelow end_rank zones.now limit result }
 {
     zones.partition_point(|zone| zone.rank_by_end() < limit)
-}
-
-/// The zones at an index that start last.
-fn top_at(tops: &[Top], index: usize) -> Top
-    requires { index < length tops.now }
-    ensures { slice_get tops.now index ≡ Some result }
-{
-    tops[index]
 }
 
 /// Of the zones of a key that end before a stamp, and are of another write than this one, the one that starts last.
@@ -156,8 +149,8 @@ pub(crate) fn last_other(
     if upto == 0 {
         return None;
     }
-    let top = top_at(tops, upto - 1);
-    let first = zone_at(zones, top.first as usize);
+    let top = item_at(tops, upto - 1);
+    let first = item_at(zones, top.first as usize);
     if first.key != key {
         return None;
     }
@@ -167,6 +160,6 @@ pub(crate) fn last_other(
     if top.second == top.first {
         return None;
     }
-    let second = zone_at(zones, top.second as usize);
+    let second = item_at(zones, top.second as usize);
     Some(second)
 }

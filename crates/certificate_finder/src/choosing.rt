@@ -8,12 +8,12 @@ ghost use Rattle.certificate_finder.specs.Putting.{ArePuts};
 ghost use Rattle.certificate_finder.specs.Steps.{IsFit};
 
 use crate::groups::Groups;
-use crate::numbered_call::{NumberedCall, step_at};
-use crate::numbers::number_at;
+use crate::items::item_at;
+use crate::numbered_call::NumberedCall;
 use crate::offer::Offer;
-use crate::put::{Put, put_at, value_rank};
+use crate::put::{Put, value_rank};
 use crate::puts::puts_upto;
-use crate::ranked::{Ranked, ranked_at};
+use crate::ranked::Ranked;
 use crate::rule::Rule;
 use record_pages::is_live;
 
@@ -38,7 +38,7 @@ pub(crate) fn choose(
         (positions_in hits.now) groups.new.owners.items }
 {
     for index in 0..hits.len() {
-        let hit = ranked_at(hits, index);
+        let hit = item_at(hits, index);
         let put = chosen_put(groups, steps, puts, links, hit.position, rule);
         groups.join(steps, hit.position, put);
     }
@@ -83,14 +83,14 @@ fn best_offer(
     requires unsure { IsUnsure steps.now hit }
     ensures { IsBestOffer steps.now puts.now groups.now.owners.items rule hit 0 (length puts.now) result }
 {
-    let asked = step_at(steps, hit as usize);
+    let asked = item_at(steps, hit as usize);
     let least = value_rank(asked.key, asked.value, asked.start);
     let mut best = None;
     let mut upto = puts_upto(puts, value_rank(asked.key, asked.value, asked.end));
     while upto > 0 {
-        let put = put_at(puts, upto - 1);
+        let put = item_at(puts, upto - 1);
         if put.last() < least {
-            upto = number_at(links, upto - 1) as usize;
+            upto = item_at(links, upto - 1) as usize;
         } else {
             best = with_put(best, groups, steps, hit, rule, &put);
             upto -= 1;
@@ -113,7 +113,7 @@ fn with_put(
     requires put { put.now.position < length steps.now }
     ensures { IsWithPut steps.now groups.now.owners.items rule hit put.now best result }
 {
-    let asked = step_at(steps, hit as usize);
+    let asked = item_at(steps, hit as usize);
     if !is_live(put.expires, asked.time) {
         return best;
     }

@@ -34,11 +34,3 @@ impl Crossing {
         }
     }
 }
-
-/// The crossing at an index.
-pub(crate) fn crossing_at(crossings: &[Crossing], index: usize) -> Crossing
-    requires { index < length crossings.now }
-    ensures { slice_get crossings.now index ≡ Some result }
-{
-    crossings[index]
-}

@@ -4,9 +4,9 @@ ghost use Rattle.std.specs.List.Sorted.{IsNonDecreasingBy};
 ghost use Rattle.certificate_finder.specs.Deciding.{AreStill, IsMarked};
 ghost use Rattle.certificate_finder.specs.Zones.{AreCrossings, AreDistinct, GrowsByCrossing, IsFitZone, IsLastKey, zone_rank};
 
-use crate::crossing::{Crossing, crossing_at};
-use crate::flags::flag_at;
-use crate::zone::{Zone, zone_at};
+use crate::crossing::Crossing;
+use crate::items::item_at;
+use crate::zone::Zone;
 use std::alloc::{AllocError, Global};
 
 /// Of each key that has zones that are crossed two such zones, by the numbers of the keys.
@@ -20,9 +20,9 @@ pub(crate) fn crossings_of(alloc: Global, zones: &[Zone]) -> Result<Vec<Crossing
     if zones.is_empty() {
         return Ok(crossings);
     }
-    let mut high = zone_at(zones, 0);
+    let mut high = item_at(zones, 0);
     for index in 1..zones.len() {
-        let zone = zone_at(zones, index);
+        let zone = item_at(zones, index);
         list_crossing(&mut crossings, high, zone)?;
         high = higher(high, zone);
     }
@@ -54,7 +54,7 @@ fn is_last_key(crossings: &[Crossing], key: u32) -> bool
     if count == 0 {
         return false;
     }
-    let last = crossing_at(crossings, count - 1);
+    let last = item_at(crossings, count - 1);
     last.one.key == key
 }
 
@@ -74,9 +74,9 @@ pub(crate) fn still_stuck(
     if zones.is_empty() {
         return Ok(still);
     }
-    let mut high = zone_at(zones, 0);
+    let mut high = item_at(zones, 0);
     for index in 1..zones.len() {
-        let zone = zone_at(zones, index);
+        let zone = item_at(zones, index);
         mark_crossed(&mut still, stuck, high, zone);
         high = higher(high, zone);
     }
@@ -90,7 +90,7 @@ fn mark_crossed(still: &mut Vec<bool>, stuck: &[bool], high: Zone, zone: Zone)
     ensures { IsMarked stuck.now high zone still.old.items still.new.items }
 {
     let key = zone.key as usize;
-    if are_crossed(high, zone) && flag_at(stuck, key) {
+    if are_crossed(high, zone) && item_at(stuck, key) {
         still[key] = true;
     }
 }

@@ -14,10 +14,10 @@ use crate::groups::Groups;
 use crate::hits::all_puts_of;
 use crate::in_turn::hits_in_turn;
 use crate::line::certificate_by_zones;
+use crate::linked_puts::LinkedPuts;
 use crate::links::links_of;
 use crate::mix::Mix;
 use crate::numbered_call::NumberedCall;
-use crate::put::Put;
 use crate::ranked::Ranked;
 use crate::rule::{RULES, Rule, rule_at};
 use crate::stamp::Stamp;
@@ -43,14 +43,11 @@ pub(crate) fn certificate_by_rules(
     let puts = all_puts_of(alloc, steps)?;
     let links = links_of(alloc, puts.as_slice())?;
     let hits = hits_in_turn(alloc, steps, unsure, Stamp::Start)?;
-    match tried(
-        alloc,
-        steps,
-        owners,
-        puts.as_slice(),
-        links.as_slice(),
-        hits.as_slice(),
-    ) {
+    let linked = LinkedPuts {
+        puts: puts.as_slice(),
+        links: links.as_slice(),
+    };
+    match tried(alloc, steps, owners, linked, hits.as_slice()) {
         Ok(certificate) => Ok(certificate),
         Err(refused) => Err(refused),
     }
@@ -61,18 +58,17 @@ fn tried(
     alloc: Global,
     steps: &[NumberedCall],
     owners: &[u32],
-    puts: &[Put],
-    links: &[u32],
+    linked: LinkedPuts<'_>,
     hits: &[Ranked],
 ) -> Result<Option<Certificate>, AllocError>
     requires few { length steps.now < 2 ^ 31 }
     requires fit { All IsFit steps.now }
-    requires ready { IsReady steps.now owners.now puts.now links.now hits.now }
+    requires ready { IsReady steps.now owners.now linked.puts.now linked.links.now hits.now }
     ensures { IfOk result (λ found.
         MatchOption found (FailAtSome steps.now owners.now (positions_in hits.now))
         (MakesAccepted steps.now)) }
 {
-    let mix = mixed(alloc, steps, owners, puts, links, hits)?;
+    let mix = mixed(alloc, steps, owners, linked, hits)?;
     if mix.is_stuck() {
         return Ok(None);
     }
@@ -85,19 +81,18 @@ fn mixed(
     alloc: Global,
     steps: &[NumberedCall],
     owners: &[u32],
-    puts: &[Put],
-    links: &[u32],
+    linked: LinkedPuts<'_>,
     hits: &[Ranked],
 ) -> Result<Mix, AllocError>
     requires few { length steps.now < 2 ^ 31 }
     requires fit { All IsFit steps.now }
-    requires ready { IsReady steps.now owners.now puts.now links.now hits.now }
+    requires ready { IsReady steps.now owners.now linked.puts.now linked.links.now hits.now }
     ensures { IfOk result (IsMixOf steps.now owners.now (positions_in hits.now) (length all_rules)) }
 {
     let mut mix = Mix::of(alloc, steps, owners)?;
     for index in 0..RULES {
         let rule = rule_at(index);
-        try_rule(alloc, &mut mix, steps, owners, puts, links, hits, rule)?;
+        try_rule(alloc, &mut mix, steps, owners, linked, hits, rule)?;
         if !mix.is_stuck() {
             return Ok(mix);
         }
@@ -111,19 +106,18 @@ fn try_rule(
     mix: &mut Mix,
     steps: &[NumberedCall],
     owners: &[u32],
-    puts: &[Put],
-    links: &[u32],
+    linked: LinkedPuts<'_>,
     hits: &[Ranked],
     rule: Rule,
 ) -> Result<(), AllocError>
     requires few { length steps.now < 2 ^ 31 }
     requires fit { All IsFit steps.now }
-    requires ready { IsReady steps.now owners.now puts.now links.now hits.now }
+    requires ready { IsReady steps.now owners.now linked.puts.now linked.links.now hits.now }
     requires mix { IsMix steps.now mix.old }
     ensures { OnOk result (IsTried steps.now owners.now (positions_in hits.now) rule mix.old mix.new) }
 {
     let mut groups = Groups::of(alloc, steps, owners)?;
-    choose(&mut groups, steps, puts, links, hits, rule);
+    choose(&mut groups, steps, linked.puts, linked.links, hits, rule);
     let chosen = groups.owners.as_slice();
     let earliest = groups.earliest.as_slice();
     let zones = sorted_zones(alloc, steps, chosen, earliest, groups.latest.as_slice())?;

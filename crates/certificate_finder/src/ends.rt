@@ -2,8 +2,8 @@
 ghost use Rattle.std.specs.Prelude.{◌≡◌, ◌<◌, ◌^◌, All, IfOk, length};
 ghost use Rattle.certificate_finder.specs.Zones.{AreEarliest, AreLatest, ArePositions};
 
-use crate::numbered_call::{NumberedCall, step_at};
-use crate::numbers::number_at;
+use crate::items::item_at;
+use crate::numbered_call::NumberedCall;
 use std::alloc::{AllocError, Global};
 
 /// The positions up to a count.
@@ -31,10 +31,10 @@ pub(crate) fn earliest_of(
 {
     let mut earliest = positions(alloc, steps.len())?;
     for position in 0..steps.len() {
-        let step = step_at(steps, position);
-        let owner = number_at(owners, position) as usize;
-        let known = number_at(earliest.as_slice(), owner) as usize;
-        let best = step_at(steps, known);
+        let step = item_at(steps, position);
+        let owner = item_at(owners, position) as usize;
+        let known = item_at(earliest.as_slice(), owner) as usize;
+        let best = item_at(steps, known);
         if step.end < best.end {
             earliest[owner] = position as u32;
         }
@@ -55,10 +55,10 @@ pub(crate) fn latest_of(
 {
     let mut latest = positions(alloc, steps.len())?;
     for position in 0..steps.len() {
-        let step = step_at(steps, position);
-        let owner = number_at(owners, position) as usize;
-        let known = number_at(latest.as_slice(), owner) as usize;
-        let best = step_at(steps, known);
+        let step = item_at(steps, position);
+        let owner = item_at(owners, position) as usize;
+        let known = item_at(latest.as_slice(), owner) as usize;
+        let best = item_at(steps, known);
         if best.start < step.start {
             latest[owner] = position as u32;
         }

@@ -7,8 +7,9 @@ ghost use Rattle.certificate_finder.specs.Putting.{ArePuts, put_rank};
 ghost use Rattle.certificate_finder.specs.Steps.{IsFit};
 
 use crate::excluded::{Excluded, Excuse};
-use crate::numbered_call::{NumberedCall, step_at};
-use crate::put::{Put, put_at, value_rank};
+use crate::items::item_at;
+use crate::numbered_call::NumberedCall;
+use crate::put::{Put, value_rank};
 use crate::put_range::PutRange;
 use crate::puts::{puts_below, puts_upto};
 use std::alloc::{AllocError, Global};
@@ -38,7 +39,7 @@ pub(crate) fn excluded_between(
 {
     let mut excluded = Vec::new(alloc);
     for index in from..upto {
-        let put = put_at(puts, index);
+        let put = item_at(puts, index);
         let why = excuse_of(&put, hit);
         excluded.push(Excluded {
             put: put.position,
@@ -60,7 +61,7 @@ pub(crate) fn excluded_of(
     requires refused { IsRefused steps.now position }
     ensures { IfOk result (λ excluded. AreExcludedAt steps.now position excluded.items) }
 {
-    let hit = step_at(steps, position as usize);
+    let hit = item_at(steps, position as usize);
     let like = puts_like(puts, &hit);
     match excluded_between(alloc, puts, &hit, like.from, like.upto) {
         Ok(excluded) => Ok(excluded),

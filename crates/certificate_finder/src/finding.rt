@@ -9,20 +9,18 @@ ghost use Rattle.certificate_finder.specs.Steps.{AreSteps, IsFit};
 ghost use Rattle.certificate_finder.specs.Witnesses.{IsWitness};
 ghost use Rattle.certificate_finder.specs.Zones.{AreUncrossed};
 
-use crate::crossing::crossing_at;
 use crate::crossings::crossings_of;
 use crate::deciding::certificate_by_rules;
 use crate::excuses::excluded_of;
 use crate::found::Found;
 use crate::hit_reads::HitReads;
 use crate::hits::hit_reads_of;
+use crate::items::item_at;
 use crate::line::certificate_by_zones;
 use crate::numbered_call::NumberedCall;
 use crate::numbering::steps_of;
-use crate::numbers::number_at;
 use crate::owning::Owners;
 use crate::put::Put;
-use crate::ranked::ranked_at;
 use crate::reversed::reversed_of;
 use crate::unread::first_unread_of;
 use crate::witness::Witness;
@@ -83,7 +81,7 @@ pub fn find_with_hasher<S: BuildHasher + Drop>(
     let reversed = reversed_of(alloc, history)?;
     let bad = reversed.as_slice();
     if !bad.is_empty() {
-        let first = number_at(bad, 0);
+        let first = item_at(bad, 0);
         return Ok(Found::Rejected(Witness::Interval(first)));
     }
     let steps = steps_of(alloc, hash_builder, history)?;
@@ -108,7 +106,7 @@ fn found_of(alloc: Global, steps: &[NumberedCall]) -> Result<Found, AllocError>
     } = reads;
     let listed = wrong.as_slice();
     if !listed.is_empty() {
-        let first = ranked_at(listed, 0);
+        let first = item_at(listed, 0);
         let excluded = excluded_of(alloc, steps, puts.as_slice(), first.position)?;
         return Ok(Found::Rejected(Witness::Hit(first.position, excluded)));
     }
@@ -139,7 +137,7 @@ fn arranged(
     let crossings = crossings_of(alloc, listed)?;
     let crossed = crossings.as_slice();
     if !crossed.is_empty() {
-        let first = crossing_at(crossed, 0);
+        let first = item_at(crossed, 0);
         return Ok(Found::Rejected(first.witness()));
     }
     let doubtful = unsure.as_slice();

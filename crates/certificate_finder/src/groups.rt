@@ -4,8 +4,8 @@ ghost use Rattle.certificate_finder.specs.Offering.{IsLater, IsSooner};
 
 use crate::call_span::CallSpan;
 use crate::ends::{earliest_of, latest_of};
-use crate::numbered_call::{NumberedCall, step_at};
-use crate::numbers::number_at;
+use crate::items::item_at;
+use crate::numbered_call::NumberedCall;
 use crate::offer::Offer;
 use crate::rule::Rule;
 use crate::witness::Side;
@@ -57,12 +57,12 @@ impl Groups {
         ensures put { result.put ≡ put }
         ensures offer { IsOffer rule (times_in steps.now) self.now.owners.items hit result }
     {
-        let asked = step_at(steps, hit as usize);
-        let given = step_at(steps, put as usize);
-        let early = number_at(self.earliest.as_slice(), put as usize);
-        let late = number_at(self.latest.as_slice(), put as usize);
-        let first = step_at(steps, early as usize);
-        let last = step_at(steps, late as usize);
+        let asked = item_at(steps, hit as usize);
+        let given = item_at(steps, put as usize);
+        let early = item_at(self.earliest.as_slice(), put as usize);
+        let late = item_at(self.latest.as_slice(), put as usize);
+        let first = item_at(steps, early as usize);
+        let last = item_at(steps, late as usize);
         let zone = CallSpan {
             start: last.start,
             end: first.end,
@@ -84,10 +84,10 @@ impl Groups {
         requires put { put < length steps.now }
         ensures { IsSideIf steps.now self.now.owners.items hit put result }
     {
-        let step = step_at(steps, hit as usize);
-        let known = number_at(self.earliest.as_slice(), put as usize);
+        let step = item_at(steps, hit as usize);
+        let known = item_at(self.earliest.as_slice(), put as usize);
         let early = earlier(steps, known, hit, &step);
-        let noted = number_at(self.latest.as_slice(), put as usize);
+        let noted = item_at(self.latest.as_slice(), put as usize);
         let late = later(steps, noted, hit, &step);
         Side {
             write: put,
@@ -105,10 +105,10 @@ impl Groups {
         ensures owners { self.new.owners.items ≡ slice_set self.old.owners.items hit put }
         ensures groups { AreGroups steps.now self.new }
     {
-        let step = step_at(steps, hit as usize);
-        let known = number_at(self.earliest.as_slice(), put as usize);
+        let step = item_at(steps, hit as usize);
+        let known = item_at(self.earliest.as_slice(), put as usize);
         let early = earlier(steps, known, hit, &step);
-        let noted = number_at(self.latest.as_slice(), put as usize);
+        let noted = item_at(self.latest.as_slice(), put as usize);
         let late = later(steps, noted, hit, &step);
         self.owners[hit as usize] = put;
         self.earliest[put as usize] = early;
@@ -121,7 +121,7 @@ fn earlier(steps: &[NumberedCall], known: u32, hit: u32, step: &NumberedCall) ->
     requires known { known < length steps.now }
     ensures { IsSooner steps.now known hit step.now result }
 {
-    let best = step_at(steps, known as usize);
+    let best = item_at(steps, known as usize);
     if step.end < best.end { hit } else { known }
 }
 
@@ -130,6 +130,6 @@ fn later(steps: &[NumberedCall], known: u32, hit: u32, step: &NumberedCall) -> u
     requires known { known < length steps.now }
     ensures { IsLater steps.now known hit step.now result }
 {
-    let best = step_at(steps, known as usize);
+    let best = item_at(steps, known as usize);
     if best.start < step.start { hit } else { known }
 }

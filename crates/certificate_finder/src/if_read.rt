@@ -12,11 +12,12 @@ ghost use Rattle.certificate_finder.specs.Unreading.{AreByEnds, AreUnreadUpto, H
 use crate::by_ends::{ByEnds, last_other};
 use crate::faults::CrossedWrites;
 use crate::groups::Groups;
-use crate::numbered_call::{NumberedCall, step_at};
-use crate::numbers::number_at;
-use crate::put::{Put, put_at, value_rank};
+use crate::items::item_at;
+use crate::linked_puts::LinkedPuts;
+use crate::numbered_call::NumberedCall;
+use crate::put::{Put, value_rank};
 use crate::puts::puts_upto;
-use crate::ranked::{Ranked, ranked_at};
+use crate::ranked::Ranked;
 use crate::unread_hit::UnreadHit;
 use record_pages::is_live;
 use std::alloc::{AllocError, Global};
@@ -37,10 +38,10 @@ fn crossed_if(
     ensures { MatchOption result (IsOpen steps.now groups.now.owners.items hit put)
         (IsCrossedIf steps.now groups.now.owners.items hit put) }
 {
-    let given = step_at(steps, put as usize);
+    let given = item_at(steps, put as usize);
     let own = groups.side_if(steps, hit, put);
-    let first = step_at(steps, own.early as usize);
-    let last = step_at(steps, own.late as usize);
+    let first = item_at(steps, own.early as usize);
+    let last = item_at(steps, own.late as usize);
     let zones = by_ends.zones.as_slice();
     let tops = by_ends.tops.as_slice();
     match last_other(zones, tops, given.key, last.start, put) {
@@ -73,7 +74,7 @@ fn look_at(
     requires put { put.now.position < length steps.now }
     ensures { IfOk result (λ fits. IsLookedAt steps.now groups.now.owners.items hit put.now fits reads.old.items reads.new.items) }
 {
-    let asked = step_at(steps, hit as usize);
+    let asked = item_at(steps, hit as usize);
     if !is_live(put.expires, asked.time) {
         return Ok(true);
     }
@@ -89,29 +90,28 @@ fn look_at(
 fn crossed_reads(
     alloc: Global,
     steps: &[NumberedCall],
-    puts: &[Put],
-    links: &[u32],
+    linked: LinkedPuts<'_>,
     groups: &Groups,
     by_ends: &ByEnds,
     hit: u32,
 ) -> Result<Option<Vec<CrossedWrites>>, AllocError>
     requires fit { All IsFit steps.now }
-    requires puts { ArePuts steps.now puts.now }
-    requires links { AreLinks puts.now links.now }
+    requires puts { ArePuts steps.now linked.puts.now }
+    requires links { AreLinks linked.puts.now linked.links.now }
     requires groups { AreGroups steps.now groups.now }
     requires by_ends { AreByEnds steps.now groups.now.owners.items by_ends.now }
     requires unsure { IsUnsure steps.now hit }
     ensures { IfOk result (λ reads. MatchOption reads (HasOpen steps.now groups.now.owners.items hit)
         (λ listed. IsUnreadIn steps.now groups.now.owners.items hit listed.items)) }
 {
-    let asked = step_at(steps, hit as usize);
+    let asked = item_at(steps, hit as usize);
     let least = value_rank(asked.key, asked.value, asked.start);
     let mut reads = Vec::new(alloc);
-    let mut upto = puts_upto(puts, value_rank(asked.key, asked.value, asked.end));
+    let mut upto = puts_upto(linked.puts, value_rank(asked.key, asked.value, asked.end));
     while upto > 0 {
-        let put = put_at(puts, upto - 1);
+        let put = item_at(linked.puts, upto - 1);
         if put.last() < least {
-            upto = number_at(links, upto - 1) as usize;
+            upto = item_at(linked.links, upto - 1) as usize;
         } else {
             if !look_at(&mut reads, steps, groups, by_ends, hit, &put)? {
                 return Ok(None);
@@ -140,16 +140,15 @@ fn first_reads(
 pub(crate) fn unread_among(
     alloc: Global,
     steps: &[NumberedCall],
-    puts: &[Put],
-    links: &[u32],
+    linked: LinkedPuts<'_>,
     groups: &Groups,
     by_ends: &ByEnds,
     hits: &[Ranked],
     most: usize,
 ) -> Result<Vec<UnreadHit>, AllocError>
     requires fit { All IsFit steps.now }
-    requires puts { ArePuts steps.now puts.now }
-    requires links { AreLinks puts.now links.now }
+    requires puts { ArePuts steps.now linked.puts.now }
+    requires links { AreLinks linked.puts.now linked.links.now }
     requires groups { AreGroups steps.now groups.now }
     requires by_ends { AreByEnds steps.now groups.now.owners.items by_ends.now }
     requires unsure { All (IsUnsure steps.now) (positions_in hits.now) }
@@ -158,8 +157,8 @@ pub(crate) fn unread_among(
 {
     let mut found = Vec::new(alloc);
     for index in 0..hits.len() {
-        let hit = ranked_at(hits, index).position;
-        let listed = crossed_reads(alloc, steps, puts, links, groups, by_ends, hit)?;
+        let hit = item_at(hits, index).position;
+        let listed = crossed_reads(alloc, steps, linked, groups, by_ends, hit)?;
         if let Some(reads) = listed {
             let reads = first_reads(alloc, reads.as_slice(), most)?;
             found.push(UnreadHit { hit, reads })?;
@@ -172,15 +171,14 @@ pub(crate) fn unread_among(
 pub(crate) fn first_unread(
     alloc: Global,
     steps: &[NumberedCall],
-    puts: &[Put],
-    links: &[u32],
+    linked: LinkedPuts<'_>,
     groups: &Groups,
     by_ends: &ByEnds,
     hits: &[Ranked],
 ) -> Result<Option<UnreadHit>, AllocError>
     requires fit { All IsFit steps.now }
-    requires puts { ArePuts steps.now puts.now }
-    requires links { AreLinks puts.now links.now }
+    requires puts { ArePuts steps.now linked.puts.now }
+    requires links { AreLinks linked.puts.now linked.links.now }
     requires groups { AreGroups steps.now groups.now }
     requires by_ends { AreByEnds steps.now groups.now.owners.items by_ends.now }
     requires unsure { All (IsUnsure steps.now) (positions_in hits.now) }
@@ -189,8 +187,8 @@ pub(crate) fn first_unread(
         (IsFirstUnreadIn steps.now groups.now.owners.items (positions_in hits.now))) }
 {
     for index in 0..hits.len() {
-        let hit = ranked_at(hits, index).position;
-        let listed = crossed_reads(alloc, steps, puts, links, groups, by_ends, hit)?;
+        let hit = item_at(hits, index).position;
+        let listed = crossed_reads(alloc, steps, linked, groups, by_ends, hit)?;
         if let Some(reads) = listed {
             return Ok(Some(UnreadHit { hit, reads }));
         }

@@ -2,8 +2,8 @@
 ghost use Rattle.std.specs.Prelude.{◌<◌, All, AllPairs, IfOk, length};
 ghost use Rattle.certificate_finder.specs.Offering.{AreByStamps, AreListed};
 
-use crate::numbered_call::{NumberedCall, step_at};
-use crate::numbers::number_at;
+use crate::items::item_at;
+use crate::numbered_call::NumberedCall;
 use crate::ranked::Ranked;
 use crate::stamp::Stamp;
 use std::alloc::{AllocError, Global};
@@ -37,8 +37,8 @@ fn listed_hits(
 {
     let mut hits = Vec::new(alloc);
     for index in 0..positions.len() {
-        let position = number_at(positions, index);
-        let step = step_at(steps, position as usize);
+        let position = item_at(positions, index);
+        let step = item_at(steps, position as usize);
         let rank = step.stamp(stamp) as u128 * 4294967296 + position as u128;
         hits.push(Ranked { position, rank })?;
     }

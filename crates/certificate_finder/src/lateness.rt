@@ -4,8 +4,9 @@ ghost use Rattle.certificate_finder.specs.Excluding.{AreLasts, AreLike, IsLateFr
 ghost use Rattle.certificate_finder.specs.Putting.{AreInOrder};
 ghost use Rattle.certificate_finder.specs.Steps.{IsFit};
 
+use crate::items::item_at;
 use crate::numbered_call::NumberedCall;
-use crate::put::{Put, put_at, value_rank};
+use crate::put::{Put, value_rank};
 use crate::put_range::PutRange;
 use crate::puts::puts_upto;
 use std::alloc::{AllocError, Global};
@@ -17,19 +18,11 @@ pub(crate) fn lasts_of(alloc: Global, puts: &[Put]) -> Result<Vec<u128>, AllocEr
     let mut lasts = Vec::new(alloc);
     let mut last = 0;
     for index in 0..puts.len() {
-        let put = put_at(puts, index);
+        let put = item_at(puts, index);
         last = put.last().max(last);
         lasts.push(last)?;
     }
     Ok(lasts)
-}
-
-/// The rank at an index.
-fn last_at(lasts: &[u128], index: usize) -> u128
-    requires { index < length lasts.now }
-    ensures { slice_get lasts.now index ≡ Some result }
-{
-    lasts[index]
 }
 
 /// How late a hit is, by the puts of its key and value that had started when it ended: by the last stamp at which one of them can be
@@ -50,7 +43,7 @@ pub(crate) fn late_by(
     if begun <= like.from {
         return None;
     }
-    let last = last_at(lasts, begun - 1);
+    let last = item_at(lasts, begun - 1);
     let asked = value_rank(hit.key, hit.value, hit.start);
     if last < asked {
         Some((asked - last) as u64)

@@ -3,7 +3,8 @@ ghost use Rattle.std.specs.Prelude.{◌^◌, ◌<◌, IfOk, length};
 ghost use Rattle.std.specs.List.Sorted.{IsNonDecreasingBy};
 ghost use Rattle.certificate_finder.specs.Leaves.{AreEnds, AreLeavesOf, IsBelow, itself};
 
-use crate::put::{Put, put_at};
+use crate::items::item_at;
+use crate::put::Put;
 use std::alloc::{AllocError, Global};
 
 /// By keys, values and stamps, when the puts can last be read: the ranks, in order.
@@ -31,7 +32,7 @@ pub(crate) fn leaves_of(alloc: Global, puts: &[Put], ends: &[u128]) -> Result<Ve
 {
     let mut leaves = Vec::new(alloc);
     for index in 0..puts.len() {
-        let put = put_at(puts, index);
+        let put = item_at(puts, index);
         let leaf = ends_below(ends, put.last());
         leaves.push(leaf as u32)?;
     }

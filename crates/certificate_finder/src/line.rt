@@ -8,10 +8,10 @@ ghost use Rattle.certificate_finder.specs.Steps.{AreSteps};
 ghost use Rattle.certificate_finder.specs.Zones.{AreDistinct, AreZones, FollowOn};
 
 use crate::call_kind::CallKind;
-use crate::numbered_call::{NumberedCall, step_at};
-use crate::numbers::number_at;
-use crate::ranked::{Ranked, ranked_at};
-use crate::zone::{Zone, zone_at};
+use crate::items::item_at;
+use crate::numbered_call::NumberedCall;
+use crate::ranked::Ranked;
+use crate::zone::Zone;
 use std::alloc::{AllocError, Global};
 use trace_file::Certificate;
 
@@ -56,7 +56,7 @@ fn places_of(alloc: Global, count: usize, zones: &[Zone]) -> Result<Vec<u32>, Al
 {
     let mut places = vec![in alloc; 0u32; count]?;
     for index in 0..zones.len() {
-        let zone = zone_at(zones, index);
+        let zone = item_at(zones, index);
         let write = zone.write as usize;
         places[write] = index as u32;
     }
@@ -116,9 +116,9 @@ fn listed_turns(
 {
     let mut line = Vec::new(alloc);
     for position in 0..steps.len() {
-        let step = step_at(steps, position);
-        let owner = number_at(owners, position) as usize;
-        let place = number_at(places, owner);
+        let step = item_at(steps, position);
+        let owner = item_at(owners, position) as usize;
+        let place = item_at(places, owner);
         let rank = turn_rank(&step, place, zones);
         let turn = Ranked {
             position: position as u32,
@@ -150,13 +150,13 @@ fn point_at(steps: &[NumberedCall], line: &[Ranked], place: usize, point: u64) -
     requires positions { All (λ turn. turn.position < length steps.now) line.now }
     ensures { IsPointAt steps.now line.now place point result }
 {
-    let turn = ranked_at(line, place);
-    let step = step_at(steps, turn.position as usize);
+    let turn = item_at(line, place);
+    let step = item_at(steps, turn.position as usize);
     if place == 0 {
         return next_point(&step, &step, point);
     }
-    let earlier = ranked_at(line, place - 1);
-    let before = step_at(steps, earlier.position as usize);
+    let earlier = item_at(line, place - 1);
+    let before = item_at(steps, earlier.position as usize);
     next_point(&step, &before, point)
 }
 
@@ -192,7 +192,7 @@ fn listed_spots(
     let mut point = 0;
     for place in 0..line.len() {
         let next = point_at(steps, line, place, point);
-        let turn = ranked_at(line, place);
+        let turn = item_at(line, place);
         let spot = Ranked {
             position: turn.position,
             rank: next as u128 * 4294967296 + place as u128,
@@ -209,7 +209,7 @@ fn certificate_of(alloc: Global, spots: &[Ranked]) -> Result<Certificate, AllocE
 {
     let mut certificate = Certificate::new(alloc);
     for index in 0..spots.len() {
-        let spot = ranked_at(spots, index);
+        let spot = item_at(spots, index);
         certificate.push(spot.position)?;
     }
     Ok(certificate)

@@ -2,8 +2,8 @@
 ghost use Rattle.std.specs.Prelude.{◌<◌, ◌^◌, IfOk, length};
 ghost use Rattle.certificate_finder.specs.Offering.{AreLinks, AreLinksUpto, IsLink};
 
-use crate::numbers::number_at;
-use crate::put::{Put, put_at};
+use crate::items::item_at;
+use crate::put::Put;
 use std::alloc::{AllocError, Global};
 
 /// For each put an index no later than its own: no put from there to it can be read longer than it.
@@ -25,15 +25,15 @@ fn link_of(puts: &[Put], links: &[u32], index: usize) -> usize
     requires links { AreLinksUpto puts.now index links.now }
     ensures { IsLink puts.now index result }
 {
-    let put = put_at(puts, index);
+    let put = item_at(puts, index);
     let rank = put.last();
     let mut link = index;
     while link > 0 {
-        let before = put_at(puts, link - 1);
+        let before = item_at(puts, link - 1);
         if rank < before.last() {
             return link;
         }
-        link = number_at(links, link - 1) as usize;
+        link = item_at(links, link - 1) as usize;
     }
     link
 }

@@ -2,9 +2,8 @@
 ghost use Rattle.std.specs.Prelude.{◌≡◌, ◌<◌, All, length};
 ghost use Rattle.certificate_finder.specs.Deciding.{AreMixed, IsMixedAt};
 
-use crate::flags::flag_at;
-use crate::numbered_call::{NumberedCall, step_at};
-use crate::numbers::number_at;
+use crate::items::item_at;
+use crate::numbered_call::NumberedCall;
 
 /// A number above that of each key.
 pub(crate) fn keys_in(steps: &[NumberedCall]) -> usize
@@ -12,7 +11,7 @@ pub(crate) fn keys_in(steps: &[NumberedCall]) -> usize
 {
     let mut keys = 0;
     for position in 0..steps.len() {
-        let step = step_at(steps, position);
+        let step = item_at(steps, position);
         keys = keys.max(step.key as usize + 1);
     }
     keys
@@ -50,10 +49,10 @@ fn mixed_owner(
     requires within { position < length steps.now }
     ensures { IsMixedAt steps.now stuck.now chosen.now owners.now position result }
 {
-    let step = step_at(steps, position);
-    if flag_at(stuck, step.key as usize) {
-        number_at(chosen, position)
+    let step = item_at(steps, position);
+    if item_at(stuck, step.key as usize) {
+        item_at(chosen, position)
     } else {
-        number_at(owners, position)
+        item_at(owners, position)
     }
 }

@@ -87,11 +87,3 @@ fn kind_of(act: &ActRef<'_>) -> CallKind
         ActRef::Miss => CallKind::Miss,
     }
 }
-
-/// The call at a position.
-pub(crate) fn step_at(steps: &[NumberedCall], position: usize) -> NumberedCall
-    requires { position < length steps.now }
-    ensures { slice_get steps.now position ≡ Some result }
-{
-    steps[position]
-}

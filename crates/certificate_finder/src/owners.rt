@@ -5,10 +5,11 @@ ghost use Rattle.certificate_finder.specs.Owning.{AreKnownOwners, IsOwnerAt};
 ghost use Rattle.certificate_finder.specs.Putting.{ArePuts};
 ghost use Rattle.certificate_finder.specs.Steps.{IsFit};
 
-use crate::numbered_call::{NumberedCall, step_at};
+use crate::items::item_at;
+use crate::numbered_call::NumberedCall;
 use crate::owner::Owner;
 use crate::owning::Owners;
-use crate::put::{Put, put_at};
+use crate::put::Put;
 use crate::readable::Readable;
 use std::alloc::{AllocError, Global};
 
@@ -41,24 +42,16 @@ fn owner_at(steps: &[NumberedCall], puts: &[Put], readings: &[Readable], positio
     requires within { position < length steps.now }
     ensures { IsOwnerAt steps.now position result }
 {
-    let step = step_at(steps, position);
+    let step = item_at(steps, position);
     if !step.kind.is_hit() {
         return Owner::Itself;
     }
-    match reading_at(readings, position) {
+    match item_at(readings, position) {
         Readable::Nothing => Owner::Nothing,
         Readable::One(index) => {
-            let put = put_at(puts, index as usize);
+            let put = item_at(puts, index as usize);
             Owner::Put(put.position)
         }
         Readable::Several => Owner::Unsure,
     }
-}
-
-/// The reading at an index.
-fn reading_at(readings: &[Readable], index: usize) -> Readable
-    requires { index < length readings.now }
-    ensures { slice_get readings.now index ≡ Some result }
-{
-    readings[index]
 }

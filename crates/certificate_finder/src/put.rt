@@ -1,6 +1,7 @@
 ghost use Rattle.std.specs.Prelude.{◌≡◌, ◌<◌, ◌↔◌, IsTrue, Some, length, slice_get};
 ghost use Rattle.certificate_finder.specs.Putting.{expiry_at, value_rank as rank_of_value};
 
+use crate::items::item_at;
 use crate::numbered_call::NumberedCall;
 use crate::write::Write;
 
@@ -81,19 +82,11 @@ pub(crate) fn value_rank(key: u32, value: u32, stamp: u64) -> u128
     (key as u128 * 4294967296 + value as u128) * 18446744073709551616 + stamp as u128
 }
 
-/// The put at an index.
-pub(crate) fn put_at(puts: &[Put], index: usize) -> Put
-    requires { index < length puts.now }
-    ensures { slice_get puts.now index ≡ Some result }
-{
-    puts[index]
-}
-
 /// When the put at an index expires.
 pub(crate) fn expiry(puts: &[Put], index: u32) -> u64
     requires { index < length puts.now }
     ensures { result ≡ expiry_at puts.now index }
 {
-    let put = put_at(puts, index as usize);
+    let put = item_at(puts, index as usize);
     put.expires
 }

@@ -6,7 +6,8 @@ ghost use Rattle.certificate_finder.specs.Putting.{ArePuts, IsPut, Putting, Tell
 ghost use Rattle.certificate_finder.specs.Steps.{IsFit};
 ghost use Rattle.certificate_finder.specs.Writing.{AreSoonest, AreWrites, IsSplit, IsSplitBelow};
 
-use crate::numbered_call::{NumberedCall, step_at};
+use crate::items::item_at;
+use crate::numbered_call::NumberedCall;
 use crate::put::Put;
 use crate::write::Write;
 use crate::writes::over_of;
@@ -47,7 +48,7 @@ fn listed_puts(
 {
     let mut puts = Vec::new(alloc);
     for position in 0..steps.len() {
-        let step = step_at(steps, position);
+        let step = item_at(steps, position);
         let over = over_of(writes, soonest, &step);
         list_put(&mut puts, position as u32, &step, over)?;
     }

@@ -9,11 +9,3 @@ pub(crate) struct Ranked {
     /// Its rank.
     pub(crate) rank: u128,
 }
-
-/// The position with its rank at an index.
-pub(crate) fn ranked_at(ranked: &[Ranked], index: usize) -> Ranked
-    requires { index < length ranked.now }
-    ensures { slice_get ranked.now index ≡ Some result }
-{
-    ranked[index]
-}

@@ -6,18 +6,10 @@ ghost use Rattle.certificate_finder.specs.Readings.{Says};
 ghost use Rattle.certificate_finder.specs.Trees.{AreLeaves, IsBeside, IsFrom, IsShape, IsTree};
 
 use crate::best::Best;
-use crate::numbers::number_at;
+use crate::items::item_at;
 use crate::put::Put;
 use crate::readable::Readable;
 use crate::tree_shape::TreeShape;
-
-/// The node at an index.
-fn node_at(nodes: &[Best], index: usize) -> Best
-    requires { index < length nodes.now }
-    ensures { slice_get nodes.now index ≡ Some result }
-{
-    nodes[index]
-}
 
 /// Adds a put to all nodes over its leaf.
 fn add(nodes: &mut [Best], shape: TreeShape, puts: &[Put], leaves: &[u32], index: usize)
@@ -31,10 +23,10 @@ fn add(nodes: &mut [Best], shape: TreeShape, puts: &[Put], leaves: &[u32], index
     ensures among { All (AreAmong puts.now) nodes.new }
     ensures tree { IsTree puts.now leaves.now shape (index + 1) nodes.new }
 {
-    let leaf = number_at(leaves, index) as usize;
+    let leaf = item_at(leaves, index) as usize;
     let mut at = shape.width + leaf;
     for _level in 0..shape.depth + 1 {
-        let node = node_at(nodes, at);
+        let node = item_at(nodes, at);
         let with = node.with(puts, index as u32);
         nodes[at] = with;
         at /= 2;
@@ -76,7 +68,7 @@ fn live_beside(nodes: &[Best], puts: &[Put], at: usize, moment: u64) -> Readable
     if at % 2 == 1 {
         return Readable::Nothing;
     }
-    let beside = node_at(nodes, at + 1);
+    let beside = item_at(nodes, at + 1);
     beside.reading(puts, moment)
 }
 
@@ -99,7 +91,7 @@ pub(crate) fn live_from(
         → Says (IsFrom puts.now leaves taken leaf moment) result }
 {
     let mut at = shape.width + leaf;
-    let own = node_at(nodes, at);
+    let own = item_at(nodes, at);
     let mut found = own.reading(puts, moment);
     for _level in 0..shape.depth {
         let beside = live_beside(nodes, puts, at, moment);

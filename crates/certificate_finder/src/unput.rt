@@ -7,20 +7,13 @@ ghost use Rattle.certificate_finder.specs.Putting.{Putting};
 ghost use Rattle.certificate_finder.specs.WarmSteps.{ArePairs, AreLeast, IsRankIf, IsTurn, IsUnlisted, IsWriteEnd, TellsPair, turn_at};
 ghost use Rattle.certificate_finder.specs.Writing.{Writing};
 
+use crate::items::item_at;
 use crate::mixing::keys_in;
-use crate::numbered_call::{NumberedCall, step_at};
+use crate::numbered_call::NumberedCall;
 use std::alloc::{AllocError, Global};
 
 /// A rank above those of all calls.
 const NO_RANK: u128 = 79228162514264337593543950336;
-
-/// The rank at an index.
-pub(crate) fn rank_at(ranks: &[u128], index: usize) -> u128
-    requires { index < length ranks.now }
-    ensures { slice_get ranks.now index ≡ Some result }
-{
-    ranks[index]
-}
 
 /// The pairs of key and value of the puts, in order.
 pub(crate) fn put_pairs_of(alloc: Global, steps: &[NumberedCall]) -> Result<Vec<u64>, AllocError>
@@ -38,7 +31,7 @@ fn listed_pairs(alloc: Global, steps: &[NumberedCall]) -> Result<Vec<u64>, Alloc
 {
     let mut pairs = Vec::new(alloc);
     for position in 0..steps.len() {
-        let step = step_at(steps, position);
+        let step = item_at(steps, position);
         list_pair(&mut pairs, &step)?;
     }
     Ok(pairs)
@@ -106,10 +99,10 @@ pub(crate) fn first_turns_of(
 {
     let mut turns = vec![in alloc; NO_RANK; keys_in(steps)]?;
     for position in 0..steps.len() {
-        let step = step_at(steps, position);
+        let step = item_at(steps, position);
         let key = step.key as usize;
         let turn = turn_of(pairs, position as u32, &step);
-        turns[key] = rank_at(turns.as_slice(), key).min(turn);
+        turns[key] = item_at(turns.as_slice(), key).min(turn);
     }
     Ok(turns)
 }
@@ -120,10 +113,10 @@ pub(crate) fn first_ends_of(alloc: Global, steps: &[NumberedCall]) -> Result<Vec
 {
     let mut ends = vec![in alloc; NO_RANK; keys_in(steps)]?;
     for position in 0..steps.len() {
-        let step = step_at(steps, position);
+        let step = item_at(steps, position);
         let key = step.key as usize;
         let end = write_end(&step);
-        ends[key] = rank_at(ends.as_slice(), key).min(end);
+        ends[key] = item_at(ends.as_slice(), key).min(end);
     }
     Ok(ends)
 }

@@ -9,6 +9,7 @@ use crate::by_ends::by_ends_of;
 use crate::groups::Groups;
 use crate::if_read::{first_unread, unread_among};
 use crate::in_turn::hits_in_turn;
+use crate::linked_puts::LinkedPuts;
 use crate::links::links_of;
 use crate::numbered_call::NumberedCall;
 use crate::put::Put;
@@ -42,16 +43,11 @@ pub(crate) fn unread_hits_of(
     let by_ends = by_ends_of(alloc, steps, owners)?;
     let hits = hits_in_turn(alloc, steps, unsure, Stamp::End)?;
     let ranked = hits.as_slice();
-    match unread_among(
-        alloc,
-        steps,
+    let linked = LinkedPuts {
         puts,
-        links.as_slice(),
-        &groups,
-        &by_ends,
-        ranked,
-        most,
-    ) {
+        links: links.as_slice(),
+    };
+    match unread_among(alloc, steps, linked, &groups, &by_ends, ranked, most) {
         Ok(found) => Ok(found),
         Err(refused) => Err(refused),
     }
@@ -80,15 +76,11 @@ pub(crate) fn first_unread_of(
     let by_ends = by_ends_of(alloc, steps, owners)?;
     let hits = hits_in_turn(alloc, steps, unsure, Stamp::End)?;
     let ranked = hits.as_slice();
-    match first_unread(
-        alloc,
-        steps,
+    let linked = LinkedPuts {
         puts,
-        links.as_slice(),
-        &groups,
-        &by_ends,
-        ranked,
-    ) {
+        links: links.as_slice(),
+    };
+    match first_unread(alloc, steps, linked, &groups, &by_ends, ranked) {
         Ok(found) => Ok(found),
         Err(refused) => Err(refused),
     }

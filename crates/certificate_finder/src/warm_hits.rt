@@ -6,9 +6,10 @@ ghost use Rattle.certificate_finder.specs.Lists.{AreAllBelow};
 ghost use Rattle.certificate_finder.specs.Steps.{IsFit};
 ghost use Rattle.certificate_finder.specs.WarmSteps.{ArePairs, AreLeast, IsFirstOf, IsTurn, IsWarmStep, IsWriteEnd};
 
-use crate::numbered_call::{NumberedCall, step_at};
+use crate::items::item_at;
+use crate::numbered_call::NumberedCall;
 use crate::reversed::list_if;
-use crate::unput::{first_ends_of, first_turns_of, is_unlisted, put_pairs_of, rank_at, turn_rank};
+use crate::unput::{first_ends_of, first_turns_of, is_unlisted, put_pairs_of, turn_rank};
 use std::alloc::{AllocError, Global};
 
 /// The positions of these hits, in the order of the history.
@@ -46,7 +47,7 @@ fn first_hits_of(
 {
     let mut hits = Vec::new(alloc);
     for position in 0..steps.len() {
-        let step = step_at(steps, position);
+        let step = item_at(steps, position);
         let is_first = is_first_of(pairs, turns, ends, position as u32, &step);
         list_if(&mut hits, position as u32, is_first)?;
     }
@@ -71,5 +72,5 @@ fn is_first_of(
     }
     let key = step.key as usize;
     let turn = turn_rank(position, step);
-    turn == rank_at(turns, key) && step.start as u128 <= rank_at(ends, key)
+    turn == item_at(turns, key) && step.start as u128 <= item_at(ends, key)
 }

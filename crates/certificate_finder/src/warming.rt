@@ -5,8 +5,8 @@ ghost use Rattle.trace_file.specs.Lent.{call_shown};
 ghost use Rattle.certificate_finder.specs.Warming.{IsWarmed, warm_put as put_of_call, warm_puts};
 
 use crate::finding::MAX_CALLS;
+use crate::items::item_at;
 use crate::numbering::steps_of;
-use crate::numbers::number_at;
 use crate::warm_hits::warm_hits_of;
 use crate::warmed::Warmed;
 use record_pages::NEVER;
@@ -63,7 +63,7 @@ fn warm_puts_of(alloc: Global, history: &History, hits: &[u32]) -> Result<Histor
 {
     let mut puts = History::new(alloc);
     for index in 0..hits.len() {
-        let position = number_at(hits, index);
+        let position = item_at(hits, index);
         let call = history.at(position as usize);
         puts.push_ref(&warm_put(&call))?;
     }

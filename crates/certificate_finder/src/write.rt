@@ -46,11 +46,3 @@ pub(crate) fn key_rank(key: u32, stamp: u64) -> u128
 {
     key as u128 * 18446744073709551616 + stamp as u128
 }
-
-/// The write at an index.
-pub(crate) fn write_at(writes: &[Write], index: usize) -> Write
-    requires { index < length writes.now }
-    ensures { slice_get writes.now index ≡ Some result }
-{
-    writes[index]
-}

@@ -5,9 +5,9 @@ ghost use Rattle.certificate_finder.specs.Lists.{GrowsBy, Lists};
 ghost use Rattle.certificate_finder.specs.Steps.{IsFit};
 ghost use Rattle.certificate_finder.specs.Writing.{AreWrites, AreSoonest, EndsFirst, IsFirstOver, IsSplit, TellsWrite, Writing, write_rank};
 
-use crate::numbered_call::{NumberedCall, step_at};
-use crate::numbers::number_at;
-use crate::write::{Write, key_rank, write_at};
+use crate::items::item_at;
+use crate::numbered_call::NumberedCall;
+use crate::write::{Write, key_rank};
 use std::alloc::{AllocError, Global};
 
 /// The writes, by keys and starts.
@@ -29,7 +29,7 @@ fn listed_writes(alloc: Global, steps: &[NumberedCall]) -> Result<Vec<Write>, Al
 {
     let mut writes = Vec::new(alloc);
     for position in 0..steps.len() {
-        let step = step_at(steps, position);
+        let step = item_at(steps, position);
         list_write(&mut writes, position as u32, &step)?;
     }
     Ok(writes)
@@ -75,13 +75,13 @@ fn sooner(writes: &[Write], soonest: &[u32], index: usize) -> u32
     if index + 1 == writes.len() {
         return index as u32;
     }
-    let write = write_at(writes, index);
-    let next = write_at(writes, index + 1);
+    let write = item_at(writes, index);
+    let next = item_at(writes, index + 1);
     if next.key != write.key {
         return index as u32;
     }
-    let best = number_at(soonest, index + 1);
-    let later = write_at(writes, best as usize);
+    let best = item_at(soonest, index + 1);
+    let later = item_at(writes, best as usize);
     if later.end < write.end {
         best
     } else {
@@ -100,12 +100,12 @@ pub(crate) fn over_of(writes: &[Write], soonest: &[u32], step: &NumberedCall) ->
     if index == writes.len() {
         return None;
     }
-    let write = write_at(writes, index);
+    let write = item_at(writes, index);
     if write.key != step.key {
         return None;
     }
-    let best = number_at(soonest, index);
-    let first = write_at(writes, best as usize);
+    let best = item_at(soonest, index);
+    let first = item_at(writes, best as usize);
     Some(first)
 }
 

@@ -8,10 +8,11 @@ ghost use Rattle.certificate_finder.specs.Steps.{IsFit};
 
 use crate::excuses::{excluded_between, puts_like};
 use crate::faults::WrongHit;
+use crate::items::item_at;
 use crate::lateness::{lasts_of, late_by};
-use crate::numbered_call::{NumberedCall, step_at};
+use crate::numbered_call::NumberedCall;
 use crate::put::Put;
-use crate::ranked::{Ranked, ranked_at};
+use crate::ranked::Ranked;
 use std::alloc::{AllocError, Global};
 
 /// These hits, each with the first so many of its puts and what excludes them.
@@ -30,7 +31,7 @@ pub(crate) fn wrong_hits_of(
     let lasts = lasts_of(alloc, puts)?;
     let mut hits = Vec::new(alloc);
     for index in 0..wrong.len() {
-        let position = ranked_at(wrong, index).position;
+        let position = item_at(wrong, index).position;
         let hit = wrong_hit_of(alloc, steps, puts, lasts.as_slice(), position, most)?;
         hits.push(hit)?;
     }
@@ -53,7 +54,7 @@ fn wrong_hit_of(
     ensures hit { IfOk result (λ wrong. wrong.hit ≡ position) }
     ensures wrong { IfOk result (IsWrongAt steps.now most) }
 {
-    let hit = step_at(steps, position as usize);
+    let hit = item_at(steps, position as usize);
     let like = puts_like(puts, &hit);
     let upto = like.upto.min(like.from.saturating_add(most));
     let few = excluded_between(alloc, puts, &hit, like.from, upto)?;

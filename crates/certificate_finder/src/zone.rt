@@ -54,11 +54,3 @@ impl Zone {
         }
     }
 }
-
-/// The zone at an index.
-pub(crate) fn zone_at(zones: &[Zone], index: usize) -> Zone
-    requires { index < length zones.now }
-    ensures { slice_get zones.now index ≡ Some result }
-{
-    zones[index]
-}

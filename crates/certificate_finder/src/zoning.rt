@@ -6,8 +6,8 @@ ghost use Rattle.certificate_finder.specs.Writing.{Writing};
 ghost use Rattle.certificate_finder.specs.Zones.{AreEarliest, AreDistinct, AreLatest, AreZones, TellsZone};
 
 use crate::ends::{earliest_of, latest_of};
-use crate::numbered_call::{NumberedCall, step_at};
-use crate::numbers::number_at;
+use crate::items::item_at;
+use crate::numbered_call::NumberedCall;
 use crate::zone::Zone;
 use std::alloc::{AllocError, Global};
 
@@ -69,7 +69,7 @@ fn listed_zones(
     let mut zones = Vec::new(alloc);
     for position in 0..steps.len() {
         let zone = zone_of(steps, owners, earliest, latest, position);
-        let step = step_at(steps, position);
+        let step = item_at(steps, position);
         list_zone(&mut zones, &step, zone)?;
     }
     Ok(zones)
@@ -100,11 +100,11 @@ fn zone_of(
     requires latest { AreLatest steps.now owners.now latest.now }
     ensures { IsToldAt steps.now position (TellsZone steps.now owners.now) result }
 {
-    let step = step_at(steps, position);
-    let early = number_at(earliest, position);
-    let late = number_at(latest, position);
-    let first = step_at(steps, early as usize);
-    let last = step_at(steps, late as usize);
+    let step = item_at(steps, position);
+    let early = item_at(earliest, position);
+    let late = item_at(latest, position);
+    let first = item_at(steps, early as usize);
+    let last = item_at(steps, late as usize);
     Zone {
         write: position as u32,
         key: step.key,

@@ -10,7 +10,7 @@ pub of-requires-clause-within : goal.of-requires-clause-within
 of-requires-clause-within c = single_owners_in c.args.steps.now c.args.owners.now (single_sure c.args.steps.now c.args.owners.now c.requires.ready.unsure c.requires.ready.own)
 
 pub choose-requires-clause-unsure : goal.choose-requires-clause-unsure
-choose-requires-clause-unsure c = all_unsure c.args.steps.now c.args.owners.now c.args.puts.now c.args.links.now c.args.hits.now c.requires.ready
+choose-requires-clause-unsure c = all_unsure c.args.steps.now c.args.owners.now c.args.linked.puts.now c.args.linked.links.now c.args.hits.now c.requires.ready
 
 pub choose-requires-clause-alone : goal.choose-requires-clause-alone
-choose-requires-clause-alone c = subst (λ os. All (GoesByItself os) (positions_in c.args.hits.now)) (sym c.in_ok-groups.ensures.owners) (all_alone c.args.steps.now c.args.owners.now c.args.puts.now c.args.links.now c.args.hits.now c.requires.ready)
+choose-requires-clause-alone c = subst (λ os. All (GoesByItself os) (positions_in c.args.hits.now)) (sym c.in_ok-groups.ensures.owners) (all_alone c.args.steps.now c.args.owners.now c.args.linked.puts.now c.args.linked.links.now c.args.hits.now c.requires.ready)

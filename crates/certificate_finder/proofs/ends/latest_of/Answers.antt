@@ -8,17 +8,17 @@ use Rattle.certificate_finder.proofs.ends.latest_of.Goals.{then-best-step, else-
 pub loop-position-init : goal.loop-position-init
 loop-position-init c = best_begins StartsBehind starts_self starts_join c.args.steps.now c.args.owners.now c.in_ok-latest.latest.items c.in_ok-latest.ensures
 
-pub step_at-best-requires : goal.step_at-best-requires
-step_at-best-requires c = known_within StartsBehind c.args.steps.now c.args.owners.now c.loop-position.position c.loop-position.latest.items c.loop-position.invariant c.number_at-owner.result c.number_at-known.result c.as_slice.result.now c.as_slice.ensures.value c.number_at-known.ensures
+pub item_at-best-requires : goal.item_at-best-requires
+item_at-best-requires c = known_within StartsBehind c.args.steps.now c.args.owners.now c.loop-position.position c.loop-position.latest.items c.loop-position.invariant c.item_at-owner.result c.item_at-known.result c.as_slice.result.now c.as_slice.ensures.value c.item_at-known.ensures
 
 pub loop-position-preserved : goal.loop-position-preserved
 loop-position-preserved c = elim c.if-best-step.branch [
-  | then-best-step w ↦ rw w.latest-is (best_taken StartsBehind starts_self starts_join c.args.steps.now c.args.owners.now c.loop-position.position c.number_at-owner.result c.number_at-known.result c.step_at-step.result c.step_at-best.result c.loop-position.latest.items c.loop-position.invariant c.step_at-step.ensures c.number_at-owner.ensures (ap (λ xs. slice_get xs c.number_at-owner.result) (sym c.as_slice.ensures.value) ∙ c.number_at-known.ensures) c.step_at-best.ensures (omega arith))
-  | else-best-step w ↦ rw w.latest-is (best_kept StartsBehind starts_self starts_join c.args.steps.now c.args.owners.now c.loop-position.position c.number_at-owner.result c.number_at-known.result c.step_at-step.result c.step_at-best.result c.loop-position.latest.items c.loop-position.invariant c.step_at-step.ensures c.number_at-owner.ensures (ap (λ xs. slice_get xs c.number_at-owner.result) (sym c.as_slice.ensures.value) ∙ c.number_at-known.ensures) c.step_at-best.ensures (omega arith))
+  | then-best-step w ↦ rw w.latest-is (best_taken StartsBehind starts_self starts_join c.args.steps.now c.args.owners.now c.loop-position.position c.item_at-owner.result c.item_at-known.result c.item_at-step.result c.item_at-best.result c.loop-position.latest.items c.loop-position.invariant c.item_at-step.ensures c.item_at-owner.ensures (ap (λ xs. slice_get xs c.item_at-owner.result) (sym c.as_slice.ensures.value) ∙ c.item_at-known.ensures) c.item_at-best.ensures (omega arith))
+  | else-best-step w ↦ rw w.latest-is (best_kept StartsBehind starts_self starts_join c.args.steps.now c.args.owners.now c.loop-position.position c.item_at-owner.result c.item_at-known.result c.item_at-step.result c.item_at-best.result c.loop-position.latest.items c.loop-position.invariant c.item_at-step.ensures c.item_at-owner.ensures (ap (λ xs. slice_get xs c.item_at-owner.result) (sym c.as_slice.ensures.value) ∙ c.item_at-known.ensures) c.item_at-best.ensures (omega arith))
 ]
 
 pub returns : goal.returns
 returns c = are_latest c.args.steps.now c.args.owners.now c.loop-position.position c.loop-position.latest.items c.loop-position.invariant (omega arith)
 
-pub number_at-known-requires : goal.number_at-known-requires
-number_at-known-requires c = let l = all_at (λ owner. owner < length c.args.steps.now) c.args.owners.now c.loop-position.position c.number_at-owner.result c.requires.within c.number_at-owner.ensures in let same = ap length c.as_slice.ensures.value in let count = c.loop-position.invariant.count in omega arith
+pub item_at-known-requires : goal.item_at-known-requires
+item_at-known-requires c = let l = all_at (λ owner. owner < length c.args.steps.now) c.args.owners.now c.loop-position.position c.item_at-owner.result c.requires.within c.item_at-owner.ensures in let same = ap length c.as_slice.ensures.value in let count = c.loop-position.invariant.count in omega arith

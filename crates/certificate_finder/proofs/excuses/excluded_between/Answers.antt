@@ -13,13 +13,13 @@ loop-index-preserved c =
     let puts = c.args.puts.now in
     let hit = c.args.hit.now in
     let i = c.loop-index.index in
-    let put = c.put_at-put.result in (
+    let put = c.item_at-put.result in (
       omega arith,
       omega arith,
       c.in_ok-push.ensures.items
           ∙ ap (λ (xs : List Excluded). xs ++ record { put = put.position; why = c.excuse_of-why.result } ∷ []) c.loop-index.invariant.2
           ∙ ap (λ (why : Excuse). excused_between puts hit c.args.from i ++ record { put = put.position; why = why } ∷ []) c.excuse_of-why.ensures
-          ∙ sym (excused_more puts hit c.args.from i put c.loop-index.invariant.0 c.put_at-put.ensures),
+          ∙ sym (excused_more puts hit c.args.from i put c.loop-index.invariant.0 c.item_at-put.ensures),
     )
 
 pub returns : goal.returns

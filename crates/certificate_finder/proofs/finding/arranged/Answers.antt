@@ -37,4 +37,4 @@ pub certificate_by_zones-requires-clause-follow : goal.certificate_by_zones-requ
 certificate_by_zones-requires-clause-follow c = subst (λ zs. AllPairs FollowOn zs) c.as_slice-listed.ensures.value (follow_on c.args.steps.now c.as_slice-owned.result.now c.in_ok-zones.zones.items c.as_slice-listed.result.now c.in_ok-crossings.crossings.items c.as_slice-crossed.result.now c.as_slice-listed.ensures.value c.in_ok-zones.ensures c.in_ok-crossings.ensures c.as_slice-crossed.ensures.value c.if-not-is_empty.ensures)
 
 pub returns-then-not-is_empty : goal.returns-then-not-is_empty
-returns-then-not-is_empty c = λ history are intervals. subst (λ w. IsFound history (Rejected w)) (sym c.witness.ensures) (found_crossed history c.args.steps.now c.args.owners.owners.items c.args.owners.unsure.items c.in_ok-zones.zones.items c.crossing_at-first.result are c.requires.owners (subst (λ os. AreZones c.args.steps.now os c.in_ok-zones.zones.items) c.as_slice-owned.ensures.value c.in_ok-zones.ensures) (subst (λ zs. AreCrossing zs c.crossing_at-first.result) c.as_slice-listed.ensures.value (all_at (AreCrossing c.as_slice-listed.result.now) c.in_ok-crossings.crossings.items 0 c.crossing_at-first.result c.in_ok-crossings.ensures.each (sym (ap (λ l. slice_get l 0) c.as_slice-crossed.ensures.value) ∙ c.crossing_at-first.ensures))) intervals)
+returns-then-not-is_empty c = λ history are intervals. subst (λ w. IsFound history (Rejected w)) (sym c.witness.ensures) (found_crossed history c.args.steps.now c.args.owners.owners.items c.args.owners.unsure.items c.in_ok-zones.zones.items c.item_at-first.result are c.requires.owners (subst (λ os. AreZones c.args.steps.now os c.in_ok-zones.zones.items) c.as_slice-owned.ensures.value c.in_ok-zones.ensures) (subst (λ zs. AreCrossing zs c.item_at-first.result) c.as_slice-listed.ensures.value (all_at (AreCrossing c.as_slice-listed.result.now) c.in_ok-crossings.crossings.items 0 c.item_at-first.result c.in_ok-crossings.ensures.each (sym (ap (λ l. slice_get l 0) c.as_slice-crossed.ensures.value) ∙ c.item_at-first.ensures))) intervals)

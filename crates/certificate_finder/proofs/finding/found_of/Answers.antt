@@ -12,17 +12,17 @@ use Rattle.certificate_finder.proofs.finding.found_of.Goals as goal
 pub excluded_of-requires-clause-refused : goal.excluded_of-requires-clause-refused
 excluded_of-requires-clause-refused c =
     let reads = c.in_ok-reads.ensures in
-    let at = sym (ap (λ l. slice_get l 0) c.as_slice-listed.ensures.value) ∙ c.ranked_at-first.ensures in
-    All-contains (IsRefused c.args.steps.now) c.in_ok-reads.reads.owners.wrong.items c.ranked_at-first.result.position reads.owners.wrong.each (first_is End c.args.steps.now c.in_ok-reads.reads.owners.wrong.items c.in_ok-reads.reads.wrong.items c.ranked_at-first.result reads.wrong at)
+    let at = sym (ap (λ l. slice_get l 0) c.as_slice-listed.ensures.value) ∙ c.item_at-first.ensures in
+    All-contains (IsRefused c.args.steps.now) c.in_ok-reads.reads.owners.wrong.items c.item_at-first.result.position reads.owners.wrong.each (first_is End c.args.steps.now c.in_ok-reads.reads.owners.wrong.items c.in_ok-reads.reads.wrong.items c.item_at-first.result reads.wrong at)
 
 pub returns-then-not-is_empty : goal.returns-then-not-is_empty
 returns-then-not-is_empty c =
     let reads = c.in_ok-reads.ensures in
-    let at = sym (ap (λ l. slice_get l 0) c.as_slice-listed.ensures.value) ∙ c.ranked_at-first.ensures in
+    let at = sym (ap (λ l. slice_get l 0) c.as_slice-listed.ensures.value) ∙ c.item_at-first.ensures in
     λ history are forward. record {
       accepted = tt;
-      rejected = reads_none history c.args.steps.now are c.ranked_at-first.result.position c.in_ok-excluded.excluded.items c.in_ok-excluded.ensures;
-      first = (forward, told_first history c.args.steps.now are c.in_ok-reads.reads.owners c.in_ok-reads.reads.wrong.items c.ranked_at-first.result reads.owners reads.wrong at);
+      rejected = reads_none history c.args.steps.now are c.item_at-first.result.position c.in_ok-excluded.excluded.items c.in_ok-excluded.ensures;
+      first = (forward, told_first history c.args.steps.now are c.in_ok-reads.reads.owners c.in_ok-reads.reads.wrong.items c.item_at-first.result reads.owners reads.wrong at);
       undecided = tt;
     }
 

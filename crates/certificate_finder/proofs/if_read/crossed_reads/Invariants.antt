@@ -6,7 +6,7 @@ use Rattle.certificate_finder.proofs.if_read.crossed_reads.Given as goal
 abbrev pub invariant-loop-upto : goal.invariant-loop-upto
 invariant-loop-upto l = record {
   within : l.upto ≤ l.initial.upto;
-  reads : AreReadsFrom l.steps l.groups.owners.items l.hit l.puts l.upto l.reads.items;
+  reads : AreReadsFrom l.steps l.groups.owners.items l.hit l.linked.puts.now l.upto l.reads.items;
 }
 
 abbrev pub decreases-loop-upto : goal.decreases-loop-upto

@@ -16,14 +16,14 @@ pub loop-index-init : goal.loop-index-init
 loop-index-init c = λ k hit less at. absurd (omega arith)
 
 pub crossed_reads-requires-clause-unsure : goal.crossed_reads-requires-clause-unsure
-crossed_reads-requires-clause-unsure c = all_at (IsUnsure c.args.steps.now) (positions_in c.args.hits.now) c.loop-index.index c.ranked_at-hit.result.position c.requires.unsure (position_at c.args.hits.now c.loop-index.index c.ranked_at-hit.result c.ranked_at-hit.ensures)
+crossed_reads-requires-clause-unsure c = all_at (IsUnsure c.args.steps.now) (positions_in c.args.hits.now) c.loop-index.index c.item_at-hit.result.position c.requires.unsure (position_at c.args.hits.now c.loop-index.index c.item_at-hit.result c.item_at-hit.ensures)
 
 pub loop-index-preserved : goal.loop-index-preserved
 loop-index-preserved c =
     let steps = c.args.steps.now in
     let owners = c.args.groups.now.owners.items in
-    let hit = c.ranked_at-hit.result.position in
-    open_more steps owners (positions_in c.args.hits.now) c.loop-index.index hit c.loop-index.invariant (position_at c.args.hits.now c.loop-index.index c.ranked_at-hit.result c.ranked_at-hit.ensures)
+    let hit = c.item_at-hit.result.position in
+    open_more steps owners (positions_in c.args.hits.now) c.loop-index.index hit c.loop-index.invariant (position_at c.args.hits.now c.loop-index.index c.item_at-hit.result c.item_at-hit.ensures)
     (subst (λ o. MatchOption o (HasOpen steps owners hit) (λ (listed : Vec CrossedWrites). IsUnreadIn steps owners hit listed.items)) c.in_default.is c.in_ok-listed.ensures)
 
 pub returns : goal.returns

@@ -13,7 +13,7 @@ use Rattle.certificate_finder.proofs.if_read.unread_among.Goals as goal
 use Rattle.certificate_finder.proofs.if_read.unread_among.Goals.{in-Some+in_ok-reads+in_ok-push, in_default}
 
 pub crossed_reads-requires-clause-unsure : goal.crossed_reads-requires-clause-unsure
-crossed_reads-requires-clause-unsure c = all_at (IsUnsure c.args.steps.now) (positions_in c.args.hits.now) c.loop-index.index c.ranked_at-hit.result.position c.requires.unsure (position_at c.args.hits.now c.loop-index.index c.ranked_at-hit.result c.ranked_at-hit.ensures)
+crossed_reads-requires-clause-unsure c = all_at (IsUnsure c.args.steps.now) (positions_in c.args.hits.now) c.loop-index.index c.item_at-hit.result.position c.requires.unsure (position_at c.args.hits.now c.loop-index.index c.item_at-hit.result c.item_at-hit.ensures)
 
 pub loop-index-preserved : goal.loop-index-preserved
 loop-index-preserved c =
@@ -21,8 +21,8 @@ loop-index-preserved c =
     let owners = c.args.groups.now.owners.items in
     let most = c.args.most in
     let hits = positions_in c.args.hits.now in
-    let hit = c.ranked_at-hit.result.position in
-    let at = position_at c.args.hits.now c.loop-index.index c.ranked_at-hit.result c.ranked_at-hit.ensures in
+    let hit = c.item_at-hit.result.position in
+    let at = position_at c.args.hits.now c.loop-index.index c.item_at-hit.result c.item_at-hit.ensures in
     elim c.match-listed.branch [
       | in-Some+in_ok-reads+in_ok-push w ↦ subst (λ (f : Vec UnreadHit). AreUnreadUpto steps owners most hits (c.loop-index.index + 1) f.items) (sym w.found-is)
           (unread_more steps owners most hits c.loop-index.index c.loop-index.found.items w.push.new.self.items (record { hit = hit; reads = w.in_ok-reads.reads }) c.requires.order at

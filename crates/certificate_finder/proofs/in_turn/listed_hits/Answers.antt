@@ -4,4 +4,4 @@ use Rattle.certificate_finder.proofs.InTurnLemmas.{listed_more}
 use Rattle.certificate_finder.proofs.in_turn.listed_hits.Goals as goal
 
 pub loop-index-preserved : goal.loop-index-preserved
-loop-index-preserved c = subst (λ items. AreListed c.args.stamp c.args.steps.now c.args.positions.now (c.loop-index.index + 1) items) (sym c.in_ok-push.ensures.items) (listed_more c.args.stamp c.args.steps.now c.args.positions.now c.loop-index.index c.number_at-position.result _ c.loop-index.hits.items c.step_at-step.result c.loop-index.invariant c.number_at-position.ensures c.step_at-step.ensures (omega arith) (let same = c.stamp.ensures in omega arith))
+loop-index-preserved c = subst (λ items. AreListed c.args.stamp c.args.steps.now c.args.positions.now (c.loop-index.index + 1) items) (sym c.in_ok-push.ensures.items) (listed_more c.args.stamp c.args.steps.now c.args.positions.now c.loop-index.index c.item_at-position.result _ c.loop-index.hits.items c.item_at-step.result c.loop-index.invariant c.item_at-position.ensures c.item_at-step.ensures (omega arith) (let same = c.stamp.ensures in omega arith))

@@ -11,8 +11,8 @@ pub loop-index-preserved : goal.loop-index-preserved
 loop-index-preserved c =
     let puts = c.args.puts.now in
     let i = c.loop-index.index in
-    let is : c.max-last.result ≡ max (last_rank c.put_at-put.result) c.loop-index.last = c.max-last.ensures ∙ ap (λ r. max r c.loop-index.last) c.last.ensures in
-    let new = subst (IsLast puts (i + 1)) (sym is) (last_more puts i c.loop-index.last c.put_at-put.result c.loop-index.invariant.0 c.put_at-put.ensures) in
+    let is : c.max-last.result ≡ max (last_rank c.item_at-put.result) c.loop-index.last = c.max-last.ensures ∙ ap (λ r. max r c.loop-index.last) c.last.ensures in
+    let new = subst (IsLast puts (i + 1)) (sym is) (last_more puts i c.loop-index.last c.item_at-put.result c.loop-index.invariant.0 c.item_at-put.ensures) in
     (new, subst (AreLasts puts (i + 1)) (sym c.in_ok-push.ensures.items) (lasts_more puts i c.max-last.result c.loop-index.lasts.items c.loop-index.invariant.1 new))
 
 pub returns : goal.returns

@@ -8,4 +8,4 @@ pub loop-index-init : goal.loop-index-init
 loop-index-init c = places_begin c.args.count c.args.zones.now _ (search rules)
 
 pub loop-index-preserved : goal.loop-index-preserved
-loop-index-preserved c = places_more c.args.count c.args.zones.now c.loop-index.index c.loop-index.places.items c.zone_at-zone.result c.requires.distinct c.loop-index.invariant c.zone_at-zone.ensures (all_at (λ (z : Zone). z.write < c.args.count) c.args.zones.now c.loop-index.index c.zone_at-zone.result c.requires.within c.zone_at-zone.ensures)
+loop-index-preserved c = places_more c.args.count c.args.zones.now c.loop-index.index c.loop-index.places.items c.item_at-zone.result c.requires.distinct c.loop-index.invariant c.item_at-zone.ensures (all_at (λ (z : Zone). z.write < c.args.count) c.args.zones.now c.loop-index.index c.item_at-zone.result c.requires.within c.item_at-zone.ensures)

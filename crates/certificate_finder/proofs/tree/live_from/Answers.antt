@@ -8,7 +8,7 @@ use Rattle.certificate_finder.proofs.tree.live_from.Goals as goal
 pub loop-level-init : goal.loop-level-init
 loop-level-init c = record {
   over = refl;
-  reached = λ leaves taken tree. own_leaf c.args.puts.now leaves c.args.shape c.requires.shape.power taken c.args.leaf c.args.moment c.args.nodes.now c.requires.within (expiries_small c.args.puts.now c.requires.fit) tree c.node_at-own.result c.reading-found.result c.node_at-own.ensures c.reading-found.ensures;
+  reached = λ leaves taken tree. own_leaf c.args.puts.now leaves c.args.shape c.requires.shape.power taken c.args.leaf c.args.moment c.args.nodes.now c.requires.within (expiries_small c.args.puts.now c.requires.fit) tree c.item_at-own.result c.reading-found.result c.item_at-own.ensures c.reading-found.ensures;
 }
 
 pub loop-level-preserved : goal.loop-level-preserved

@@ -10,7 +10,7 @@ loop-index-preserved c =
     c.in_ok-push_ref.ensures.ok
     ∙ ap (λ put. c.loop-index.puts ++ put ∷ []) c.warm_put.ensures.put
     ∙ ap (λ puts. puts ++ warm_put (call_shown c.at-call.result) ∷ []) c.loop-index.invariant
-    ∙ sym (puts_next c.args.history.now c.args.hits.now c.loop-index.index c.number_at-position.result (call_shown c.at-call.result) c.number_at-position.ensures c.at-call.ensures.call)
+    ∙ sym (puts_next c.args.history.now c.args.hits.now c.loop-index.index c.item_at-position.result (call_shown c.at-call.result) c.item_at-position.ensures c.at-call.ensures.call)
 
 pub returns : goal.returns
 returns c = c.loop-index.invariant ∙ ap (warm_puts c.args.history.now) (take_all c.loop-index.index c.args.hits.now (omega arith))
