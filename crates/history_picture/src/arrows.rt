@@ -1,5 +1,5 @@
 // Which call precedes which, if that matters.
-ghost use Rattle.std.specs.Prelude.{◌≡◌, ◌++◌, IfOk, OnOk, take};
+ghost use Rattle.std.specs.Prelude.{◌≡◌, ◌++◌, ◌∷◌, [], IfOk, OnOk, take};
 ghost use Rattle.std.specs.List.{flat_map};
 ghost use Rattle.history_picture.specs.Arrows.{arrows_of, crossed_arrows, excluded_arrows, read_arrows};
 
@@ -21,34 +21,66 @@ pub(crate) struct Arrow {
 pub(crate) fn arrows(alloc: Global, reason: &Reason) -> Result<Vec<Arrow>, AllocError>
     ensures { IfOk result (λ arrows. arrows.items ≡ arrows_of reason.now) }
 {
+    let mut arrows = Vec::new(alloc);
+    let Ok(()) = push_arrows(&mut arrows, reason) else {
+        return Err(AllocError);
+    };
+    Ok(arrows)
+}
+
+/// Appends the same.
+fn push_arrows(arrows: &mut Vec<Arrow>, reason: &Reason) -> Result<(), AllocError>
+    ensures { OnOk result (arrows.new.items ≡ arrows.old.items ++ arrows_of reason.now) }
+{
     match reason {
-        Reason::Interval(_) => Ok(Vec::new(alloc)),
-        Reason::Hit(hit, puts) => hit_arrows(alloc, *hit, puts.as_slice()),
-        Reason::Crossed(one, other) => side_arrows(alloc, one, other),
-        Reason::Unread(unread) => unread_arrows(alloc, unread.reads.as_slice()),
-        Reason::OutOfOrder(_, call, earlier) => Ok(vec![in alloc;
-            Arrow {
+        Reason::Hit(hit, puts) => push_hit(arrows, *hit, puts.as_slice()),
+        Reason::Crossed(one, other) => push_crossed(arrows, one, other),
+        Reason::Unread(unread) => push_unread(arrows, unread.reads.as_slice()),
+        Reason::OutOfOrder(_, call, earlier) => {
+            let arrow = Arrow {
                 from: *call,
-                to: *earlier
-            },
-        ]?),
-        Reason::WrongHit(..) => Ok(Vec::new(alloc)),
-        Reason::Repeated(..) => Ok(Vec::new(alloc)),
-        Reason::NotAPlace(..) => Ok(Vec::new(alloc)),
-        Reason::WrongCount => Ok(Vec::new(alloc)),
+                to: *earlier,
+            };
+            push(arrows, arrow)
+        }
+        Reason::Interval(_) => Ok(()),
+        Reason::WrongHit(..) => Ok(()),
+        Reason::Repeated(..) => Ok(()),
+        Reason::NotAPlace(..) => Ok(()),
+        Reason::WrongCount => Ok(()),
     }
 }
 
-/// What precedes what, for a hit that can't have read its puts.
-fn hit_arrows(alloc: Global, hit: u32, puts: &[Excluded]) -> Result<Vec<Arrow>, AllocError>
-    ensures { IfOk result (λ arrows.
-        arrows.items ≡ flat_map (excluded_arrows hit) (take 8 puts.now)) }
+/// Appends an arrow.
+fn push(arrows: &mut Vec<Arrow>, arrow: Arrow) -> Result<(), AllocError>
+    ensures { OnOk result (arrows.new.items ≡ arrows.old.items ++ arrow ∷ []) }
 {
-    let mut arrows: Vec<Arrow> = Vec::new(alloc);
-    for put in first_eight(puts) {
-        push_excluded(&mut arrows, hit, put)?;
+    arrows.push(arrow)?;
+    Ok(())
+}
+
+/// Appends two arrows.
+fn push_both(arrows: &mut Vec<Arrow>, first: Arrow, second: Arrow) -> Result<(), AllocError>
+    ensures { OnOk result (arrows.new.items ≡ arrows.old.items ++ first ∷ second ∷ []) }
+{
+    let Ok(()) = push(arrows, first) else {
+        return Err(AllocError);
+    };
+    push(arrows, second)
+}
+
+/// Appends what precedes what, for a hit that can't have read its puts.
+fn push_hit(arrows: &mut Vec<Arrow>, hit: u32, puts: &[Excluded]) -> Result<(), AllocError>
+    ensures { OnOk result (
+        arrows.new.items ≡ arrows.old.items ++ flat_map (excluded_arrows hit) (take 8 puts.now)) }
+{
+    let few = first_eight(puts);
+    for put in few {
+        let Ok(()) = push_excluded(arrows, hit, put) else {
+            return Err(AllocError);
+        };
     }
-    Ok(arrows)
+    Ok(())
 }
 
 /// Appends what precedes what, for a put that a hit can't have read.
@@ -58,63 +90,48 @@ fn push_excluded(arrows: &mut Vec<Arrow>, hit: u32, excluded: &Excluded) -> Resu
 {
     let put = excluded.put;
     match excluded.why {
-        Excuse::Later => {
-            arrows.push(Arrow { from: hit, to: put })?;
-            Ok(())
-        }
+        Excuse::Later => push(arrows, Arrow { from: hit, to: put }),
         Excuse::Expired => Ok(()),
         Excuse::Replaced(write) => {
-            arrows.push(Arrow {
+            let before = Arrow {
                 from: put,
                 to: write,
-            })?;
-            arrows.push(Arrow {
+            };
+            let after = Arrow {
                 from: write,
                 to: hit,
-            })?;
-            Ok(())
+            };
+            push_both(arrows, before, after)
         }
     }
 }
 
-/// What precedes what, for two crossed sides.
-fn side_arrows(alloc: Global, one: &Side, other: &Side) -> Result<Vec<Arrow>, AllocError>
-    ensures { IfOk result (λ arrows. arrows.items ≡ crossed_arrows one.now other.now) }
+/// Appends what precedes what, for two crossed sides.
+fn push_crossed(arrows: &mut Vec<Arrow>, one: &Side, other: &Side) -> Result<(), AllocError>
+    ensures { OnOk result (
+        arrows.new.items ≡ arrows.old.items ++ crossed_arrows one.now other.now) }
 {
-    Ok(vec![in alloc;
-        Arrow {
-            from: one.early,
-            to: other.late
-        },
-        Arrow {
-            from: other.early,
-            to: one.late
-        },
-    ]?)
+    let forth = Arrow {
+        from: one.early,
+        to: other.late,
+    };
+    let back = Arrow {
+        from: other.early,
+        to: one.late,
+    };
+    push_both(arrows, forth, back)
 }
 
-/// What precedes what, for a hit that would cross two writes whichever of these puts it read.
-fn unread_arrows(alloc: Global, reads: &[CrossedWrites]) -> Result<Vec<Arrow>, AllocError>
-    ensures { IfOk result (λ arrows. arrows.items ≡ flat_map read_arrows (take 3 reads.now)) }
+/// Appends what precedes what, for a hit that would cross two writes whichever of these puts it read.
+fn push_unread(arrows: &mut Vec<Arrow>, reads: &[CrossedWrites]) -> Result<(), AllocError>
+    ensures { OnOk result (
+        arrows.new.items ≡ arrows.old.items ++ flat_map read_arrows (take 3 reads.now)) }
 {
-    let mut arrows: Vec<Arrow> = Vec::new(alloc);
-    for writes in first_three(reads) {
-        push_read(&mut arrows, writes)?;
+    let few = first_three(reads);
+    for writes in few {
+        let Ok(()) = push_crossed(arrows, &writes.one, &writes.other) else {
+            return Err(AllocError);
+        };
     }
-    Ok(arrows)
-}
-
-/// Appends what precedes what, for a put that a hit would cross with another write.
-fn push_read(arrows: &mut Vec<Arrow>, writes: &CrossedWrites) -> Result<(), AllocError>
-    ensures { OnOk result (arrows.new.items ≡ arrows.old.items ++ read_arrows writes.now) }
-{
-    arrows.push(Arrow {
-        from: writes.one.early,
-        to: writes.other.late,
-    })?;
-    arrows.push(Arrow {
-        from: writes.other.early,
-        to: writes.one.late,
-    })?;
     Ok(())
 }

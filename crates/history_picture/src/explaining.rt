@@ -10,13 +10,10 @@ use crate::marks::marks;
 use crate::reason::Reason;
 use crate::scene::Scene;
 use crate::sheet::Sheet;
-use crate::shown::shown;
+use crate::shown::{MOST_CALLS, shown};
 use std::alloc::{AllocError, Global};
 use std::io::Write;
 use trace_file::{Unwritten, write_whole};
-
-/// The most calls that an explanation shows.
-const MOST_CALLS: usize = 24;
 
 /// The text that explains a reason: a sentence, then a line for each of at most 24 calls, those that matter marked by an
 /// asterisk. Keys and values are percent-coded and cut to 24 characters.

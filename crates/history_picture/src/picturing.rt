@@ -14,14 +14,11 @@ use crate::labels::marked_count;
 use crate::marks::marks;
 use crate::reason::Reason;
 use crate::scene::Scene;
-use crate::shown::shown;
+use crate::shown::{MOST_CALLS, shown};
 use crate::wrapping::{feeds, wrapped};
 use std::alloc::{AllocError, Global};
 use std::io::Write;
 use trace_file::{Unwritten, write_whole};
-
-/// The most calls that a picture shows.
-const MOST_CALLS: usize = 24;
 
 /// A picture of a reason, as the text of an SVG file: the sentence, broken into lines, a row for each caller, and in it a bar
 /// for each of its calls, of at most 24. Each call that matters is in colour, with its label on a line of its own, and there

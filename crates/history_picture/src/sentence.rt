@@ -1,5 +1,5 @@
 // The sentence that says what is wrong.
-ghost use Rattle.std.specs.Prelude.{◌≡◌, IfOk, string_bytes};
+ghost use Rattle.std.specs.Prelude.{◌≡◌, IfOk, None, Some, slice_get, string_bytes};
 ghost use Rattle.std.specs.List.{flat_map};
 ghost use Rattle.std.specs.Option.{option_copied};
 ghost use Rattle.history_picture.specs.Reasons.{reason_of};
@@ -128,24 +128,47 @@ impl Scene<'_> {
     {
         let many = puts.len();
         if many <= 1 {
-            return self.lone(alloc, hit, puts.first());
+            return self.lone(alloc, hit, puts);
         }
         let name = self.name(alloc, hit)?;
         let also = self.also(alloc, hit, first_eight(puts))?;
         format!(in alloc; "{name} can have read none of the {many} puts of its value{also}")
     }
 
-    /// A hit whose key and value no call puts, or one put.
-    fn lone(&self, alloc: Global, hit: u32, put: Option<&Excluded>) -> Result<String, AllocError>
+    /// A hit whose key and value no call puts, or one put: the first of these.
+    fn lone(&self, alloc: Global, hit: u32, puts: &[Excluded]) -> Result<String, AllocError>
         ensures { IfOk result (λ text. string_bytes text
-            ≡ lone_words self.now.history.now self.now.lines.now hit (option_copied put.entry)) }
+            ≡ lone_words self.now.history.now self.now.lines.now hit (slice_get puts.now 0)) }
     {
-        let name = self.name(alloc, hit)?;
-        let Some(put) = put else {
-            return format!(in alloc; "{name} is of a value that no call puts at its key");
+        if puts.is_empty() {
+            return self.unput(alloc, hit);
+        }
+        self.only(alloc, hit, &puts[0])
+    }
+
+    /// A hit whose key and value no call puts.
+    fn unput(&self, alloc: Global, hit: u32) -> Result<String, AllocError>
+        ensures { IfOk result (λ text. string_bytes text
+            ≡ lone_words self.now.history.now self.now.lines.now hit None) }
+    {
+        let Ok(name) = self.name(alloc, hit) else {
+            return Err(AllocError);
+        };
+        format!(in alloc; "{name} is of a value that no call puts at its key")
+    }
+
+    /// A hit whose key and value one call puts, and why it can't have read that put.
+    fn only(&self, alloc: Global, hit: u32, put: &Excluded) -> Result<String, AllocError>
+        ensures { IfOk result (λ text. string_bytes text
+            ≡ lone_words self.now.history.now self.now.lines.now hit (Some put.now)) }
+    {
+        let Ok(name) = self.name(alloc, hit) else {
+            return Err(AllocError);
+        };
+        let Ok(excuse) = self.excuse(alloc, hit, put) else {
+            return Err(AllocError);
         };
         let kind = kind_of(put.why);
-        let excuse = self.excuse(alloc, hit, put)?;
         format!(in alloc; "{name}{kind}{excuse}")
     }
 

@@ -8,6 +8,9 @@ use crate::near::{is_among, nearest};
 use std::alloc::{AllocError, Global};
 use trace_file::History;
 
+/// The most calls that an explanation or a picture shows.
+pub(crate) const MOST_CALLS: usize = 24;
+
 /// The positions of the calls that are shown if these matter, by their starts: these, and the calls of the first one's
 /// key that are nearest to it in time, at most `most` in all.
 pub(crate) fn shown(
