@@ -5,7 +5,7 @@ use Rattle.std.proofs.lemmas.Bool.{cases_eq, cases_lt}
 use Rattle.std.proofs.lemmas.List.{length_push}
 use Rattle.std.proofs.lemmas.Option.{slice_get_within}
 use Rattle.record_pages.specs.Expiry.{is_live}
-use Rattle.certificate_finder.specs.declared.call_kind.CallKind.TheVariants as kinds
+use Rattle.trace_file.specs.declared.call_kind.CallKind.TheVariants as kinds
 use Rattle.certificate_finder.specs.declared.numbered_call.NumberedCall.{NumberedCall}
 use Rattle.certificate_finder.specs.declared.offer.Offer.{Offer}
 use Rattle.certificate_finder.specs.declared.put.Put.{Put}

@@ -20,7 +20,8 @@ use Rattle.certificate_finder.specs.Lists.{AreAllBelow, GrowsIf}
 use Rattle.certificate_finder.specs.Offering.{AreByStamps, stamp_at}
 use Rattle.certificate_finder.specs.Owning.{AreKnownOwners, AreSureOwners, IsRefused}
 use Rattle.certificate_finder.specs.Reads.{HasNone}
-use Rattle.certificate_finder.specs.Steps.{AreSteps, kind_of}
+use Rattle.trace_file.specs.Kinds.{kind_of}
+use Rattle.certificate_finder.specs.Steps.{AreSteps}
 use Rattle.certificate_finder.specs.Turns.{end_at}
 use Rattle.certificate_finder.proofs.EndLemmas.{found_at}
 use Rattle.certificate_finder.proofs.FindLemmas.{call_at, could_by, could_of, has_several, hit_at, reads_of, step_at}

@@ -16,7 +16,7 @@ use Rattle.certificate_checker.proofs.public_laws.Lookups.{and_some}
 use Rattle.certificate_finder.specs.declared.excluded.Excluded.{Excluded}
 use Rattle.certificate_finder.specs.declared.excluded.Excuse.{Excuse}
 use Rattle.certificate_finder.specs.declared.excluded.Excuse.TheVariants.{Later, Expired, Replaced}
-use Rattle.certificate_finder.specs.declared.call_kind.CallKind.TheVariants as kinds
+use Rattle.trace_file.specs.declared.call_kind.CallKind.TheVariants as kinds
 use Rattle.certificate_finder.specs.declared.numbered_call.NumberedCall.{NumberedCall}
 use Rattle.certificate_finder.specs.declared.zone.Zone.{Zone}
 use Rattle.certificate_finder.specs.Excluding.{AreExcludedAt, ExcludesStep, IsExcludedStep}
@@ -24,7 +24,8 @@ use Rattle.certificate_finder.specs.Lists.{TellsOne}
 use Rattle.certificate_finder.specs.Owning.{AreSingle, IsUnsure, MayRead, ReadsLive, ReadsOnly}
 use Rattle.certificate_finder.specs.Putting.{IsOver}
 use Rattle.certificate_finder.specs.Reads.{CouldRead, HasBegun, HasSeveral, StandsBetween, StandsFor}
-use Rattle.certificate_finder.specs.Steps.{AreSteps, IsStep, IsWriting, kind_of}
+use Rattle.trace_file.specs.Kinds.{IsWriting, kind_of}
+use Rattle.certificate_finder.specs.Steps.{AreSteps, IsStep}
 use Rattle.certificate_finder.specs.Witnesses.{AreCrossed, Excludes, GoesWith, IsExcluded, IsSide, ReadsNone}
 use Rattle.certificate_finder.specs.Writing.{Writing}
 use Rattle.certificate_finder.specs.Zones.{AreCrossing, AreZones, Goes, TellsZone}

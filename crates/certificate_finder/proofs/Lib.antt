@@ -4,7 +4,6 @@ mod Excluding
 mod Lines
 mod Listing
 mod Merging
-mod NumberLemmas
 mod Placing
 mod Points
 mod PutLemmas

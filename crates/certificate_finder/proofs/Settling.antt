@@ -21,7 +21,8 @@ use Rattle.certificate_finder.specs.declared.zone.Zone.{Zone}
 use Rattle.certificate_finder.specs.Finding.{AreUndecided}
 use Rattle.certificate_finder.specs.Owning.{AreSureOwners, IsUnsure}
 use Rattle.certificate_finder.specs.Reads.{CouldRead, HasBegun, HasSeveral, LivesFor, StandsBetween}
-use Rattle.certificate_finder.specs.Steps.{AreSteps, kind_of}
+use Rattle.trace_file.specs.Kinds.{kind_of}
+use Rattle.certificate_finder.specs.Steps.{AreSteps}
 use Rattle.certificate_finder.specs.Trying.{HasStuckKey}
 use Rattle.certificate_finder.specs.Witnesses.{AreCrossed, AreCrossedIfRead, GoesIfRead, GoesWith, IsExcluded, IsSide, IsUnread, IsWitness, ReadsNone}
 use Rattle.certificate_finder.specs.Zones.{AreUncrossed, FollowOn, Goes, TellsZone}

@@ -14,7 +14,7 @@ use Rattle.trace_file.specs.declared.call.Call.{Call}
 use Rattle.certificate_checker.specs.Acceptance.{IsAccepted}
 use Rattle.certificate_checker.specs.Orders.{IsOrder}
 use Rattle.certificate_checker.proofs.public_laws.Lookups.{take_next}
-use Rattle.certificate_finder.specs.declared.call_kind.CallKind.TheVariants as kinds
+use Rattle.trace_file.specs.declared.call_kind.CallKind.TheVariants as kinds
 use Rattle.certificate_finder.specs.declared.ranked.Ranked.{Ranked}
 use Rattle.certificate_finder.specs.declared.numbered_call.NumberedCall.{NumberedCall}
 use Rattle.certificate_finder.specs.declared.zone.Zone.{Zone}
@@ -24,7 +24,8 @@ use Rattle.certificate_finder.specs.Lining.{AreGrouped, ArePlaces, AreSpots, Are
 use Rattle.certificate_finder.specs.Owning.{AreOwners}
 use Rattle.certificate_finder.specs.Points.{IsPoint}
 use Rattle.certificate_finder.specs.Spots.{AreOfOne, is_miss}
-use Rattle.certificate_finder.specs.Steps.{AreSteps, IsStep, kind_of}
+use Rattle.trace_file.specs.Kinds.{kind_of}
+use Rattle.certificate_finder.specs.Steps.{AreSteps, IsStep}
 use Rattle.certificate_finder.specs.Turns.{start_at}
 use Rattle.certificate_finder.specs.Zones.{AreDistinct, ArePositions, AreZones, FollowOn, TellsZone}
 use Rattle.certificate_finder.proofs.CrossingLemmas.{keys_rise}

@@ -8,7 +8,7 @@ use Rattle.std.proofs.lemmas.Option.{get_or_from_slice_get, slice_get_within, sl
 use Rattle.trace_file.specs.Calls.{IsCall, value_of}
 use Rattle.trace_file.specs.declared.call.Call.{Call}
 use Rattle.certificate_finder.specs.declared.numbered_call.NumberedCall.{NumberedCall}
-use Rattle.certificate_finder.specs.Numbers.{AreNumbers, KeepsNumbers}
+use Rattle.trace_file.specs.Numbers.{AreNumbers, KeepsNumbers}
 use Rattle.certificate_finder.specs.Steps.{AreSteps, IsFit, IsStep}
 use Rattle.certificate_finder.proofs.Listing.{same_at}
 

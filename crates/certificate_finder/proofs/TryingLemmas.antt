@@ -10,7 +10,7 @@ use Rattle.certificate_checker.specs.Deeds.{deed_of}
 use Rattle.certificate_checker.specs.Latest.{Writes}
 use Rattle.certificate_checker.specs.Orders.{Precedes}
 use Rattle.certificate_checker.proofs.public_laws.Lookups.{and_some, some_and}
-use Rattle.certificate_finder.specs.declared.call_kind.CallKind.TheVariants as kinds
+use Rattle.trace_file.specs.declared.call_kind.CallKind.TheVariants as kinds
 use Rattle.certificate_finder.specs.declared.numbered_call.NumberedCall.{NumberedCall}
 use Rattle.certificate_finder.specs.declared.offer.Offer.{Offer}
 use Rattle.certificate_finder.specs.declared.ranked.Ranked.{Ranked}
@@ -25,7 +25,8 @@ use Rattle.certificate_finder.specs.Lists.{IsTold, TellsOne}
 use Rattle.certificate_finder.specs.Offering.{HitsInTurn, ReadsIn, times_in}
 use Rattle.certificate_finder.specs.Owning.{AreSureOwners, IsKnownOwner, IsUnsure, ReadsLive}
 use Rattle.certificate_finder.specs.Reads.{CouldRead, HasSeveral}
-use Rattle.certificate_finder.specs.Steps.{AreSteps, IsWriting, kind_of}
+use Rattle.trace_file.specs.Kinds.{IsWriting, kind_of}
+use Rattle.certificate_finder.specs.Steps.{AreSteps}
 use Rattle.certificate_finder.specs.Trying.{AreCrossedBy, AreInTurn, AreSure, GivesNoneAt, HasStuckKey, IsSideBy, IsSure, times_at}
 use Rattle.certificate_finder.specs.Turns.{end_at, start_at}
 use Rattle.certificate_finder.specs.Writing.{Writing}

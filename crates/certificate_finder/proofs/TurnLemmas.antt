@@ -9,14 +9,15 @@ use Rattle.trace_file.specs.Calls.{time_of, value_of}
 use Rattle.trace_file.specs.declared.act.Act.{Act}
 use Rattle.trace_file.specs.declared.act.Act.TheVariants.{Put, Remove, Hit, Miss}
 use Rattle.trace_file.specs.declared.call.Call.{Call}
-use Rattle.certificate_finder.specs.declared.call_kind.CallKind.{CallKind}
-use Rattle.certificate_finder.specs.declared.call_kind.CallKind.TheVariants as kinds
+use Rattle.trace_file.specs.declared.call_kind.CallKind.{CallKind}
+use Rattle.trace_file.specs.declared.call_kind.CallKind.TheVariants as kinds
 use Rattle.certificate_finder.specs.declared.numbered_call.NumberedCall.{NumberedCall}
 use Rattle.certificate_finder.specs.declared.zone.Zone.{Zone}
 use Rattle.certificate_finder.specs.Lining.{ArePlaces, place_at, turn_at, turn_of}
 use Rattle.certificate_finder.specs.Owning.{AreOwners, ReadsAt}
 use Rattle.certificate_finder.specs.Spots.{AreOfOne, is_miss}
-use Rattle.certificate_finder.specs.Steps.{AreSteps, IsFit, IsWriting, kind_of}
+use Rattle.trace_file.specs.Kinds.{IsWriting, kind_of}
+use Rattle.certificate_finder.specs.Steps.{AreSteps, IsFit}
 use Rattle.certificate_finder.specs.Turns.{AreTurns, end_at, start_at}
 use Rattle.certificate_finder.specs.Writing.{Writing}
 use Rattle.certificate_finder.specs.Zones.{AreZones, FollowOn, Goes, TellsZone}

@@ -14,7 +14,7 @@ use Rattle.certificate_checker.specs.Latest.{Writes}
 use Rattle.certificate_checker.specs.Orders.{Precedes}
 use Rattle.certificate_checker.proofs.public_laws.Listing.{all_member, member_contained, member_map}
 use Rattle.certificate_checker.proofs.public_laws.Lookups.{and_some, some_and}
-use Rattle.certificate_finder.specs.declared.call_kind.CallKind.TheVariants as kinds
+use Rattle.trace_file.specs.declared.call_kind.CallKind.TheVariants as kinds
 use Rattle.certificate_finder.specs.declared.faults.CrossedWrites.{CrossedWrites}
 use Rattle.certificate_finder.specs.declared.found.Found.TheVariants.{Rejected}
 use Rattle.certificate_finder.specs.declared.numbered_call.NumberedCall.{NumberedCall}
@@ -32,7 +32,8 @@ use Rattle.certificate_finder.specs.Offering.{AreByStamps, ReadsIn, stamp_at}
 use Rattle.certificate_finder.specs.Owning.{AreKnownOwners, AreSingle, AreSureOwners, IsUnsure}
 use Rattle.certificate_finder.specs.Putting.{ArePuts}
 use Rattle.certificate_finder.specs.Reads.{CouldRead, HasSeveral}
-use Rattle.certificate_finder.specs.Steps.{AreSteps, IsWriting}
+use Rattle.trace_file.specs.Kinds.{IsWriting}
+use Rattle.certificate_finder.specs.Steps.{AreSteps}
 use Rattle.certificate_finder.specs.Trying.{AreSure}
 use Rattle.certificate_finder.specs.Turns.{end_at}
 use Rattle.certificate_finder.specs.Unreading.{AreReadsFrom, AreUnreadOf, AreUnreadUpto, HasOpen, IsBelow, IsCrossedIf, IsCrossedRead, IsFirstUnreadIn, IsFirstUnreadOf, IsLookedAt, IsShortUnread, IsUnreadIn, puts_in}

@@ -18,7 +18,8 @@ use Rattle.certificate_checker.proofs.public_laws.Lookups.{in_order_next}
 use Rattle.certificate_finder.specs.declared.numbered_call.NumberedCall.{NumberedCall}
 use Rattle.certificate_finder.specs.declared.warmed.Warmed.{Warmed}
 use Rattle.certificate_finder.specs.Lists.{AreAllBelow}
-use Rattle.certificate_finder.specs.Steps.{AreSteps, IsWriting, kind_of}
+use Rattle.trace_file.specs.Kinds.{IsWriting, kind_of}
+use Rattle.certificate_finder.specs.Steps.{AreSteps}
 use Rattle.certificate_finder.specs.Turns.{start_at}
 use Rattle.certificate_finder.specs.Warming.{IsUnput, IsWarm, IsWarmed, PutsAt, warm_put, warm_puts}
 use Rattle.certificate_finder.specs.WarmSteps.{IsWarmStep, ReadsUnput, turn_at}

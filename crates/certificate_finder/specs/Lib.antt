@@ -11,7 +11,6 @@ pub mod Laws
 pub mod Leaves
 pub mod Lining
 pub mod Lists
-pub mod Numbers
 pub mod Offering
 pub mod Owning
 pub mod Points

@@ -2,7 +2,7 @@
 use Rattle.std.specs.Prelude.{◌≡◌, ◌≢◌, ℕ, ◌+◌, ◌*◌, ◌^◌, ◌<◌, ◌≤◌, ◌⊎◌, ◌↔◌, List, All, AllPairs, Contains, length, slice_get, take, Some, Option, MatchOption, IsTrue}
 use Rattle.std.specs.Option.{option_map_or}
 use Rattle.record_pages.specs.Expiry.{is_live}
-use Rattle.certificate_finder.specs.declared.call_kind.CallKind.TheVariants as kinds
+use Rattle.trace_file.specs.declared.call_kind.CallKind.TheVariants as kinds
 use Rattle.certificate_finder.specs.declared.groups.Groups.{Groups}
 use Rattle.certificate_finder.specs.declared.numbered_call.NumberedCall.{NumberedCall}
 use Rattle.certificate_finder.specs.declared.offer.Offer.{Offer}

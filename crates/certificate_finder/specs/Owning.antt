@@ -1,7 +1,7 @@
 -- With which write each call goes.
 use Rattle.std.specs.Prelude.{◌≡◌, ◌≢◌, ℕ, ◌<◌, ◌≤◌, ◌⊎◌, List, [], ◌∷◌, ◌++◌, All, AllPairs, Contains, length, slice_get, Some, IsTrue}
 use Rattle.record_pages.specs.Expiry.{is_live}
-use Rattle.certificate_finder.specs.declared.call_kind.CallKind.TheVariants as kinds
+use Rattle.trace_file.specs.declared.call_kind.CallKind.TheVariants as kinds
 use Rattle.certificate_finder.specs.declared.owner.Owner.{Owner}
 use Rattle.certificate_finder.specs.declared.owner.Owner.TheVariants as owner
 use Rattle.certificate_finder.specs.declared.owning.Owners.{Owners}

@@ -1,26 +1,11 @@
 -- Calls in numbers.
 use Rattle.std.specs.Prelude.{◌≡◌, ℕ, ◌<◌, ◌^◌, ◌↔◌, List, All, length, slice_get, Some}
-use Rattle.trace_file.specs.declared.act.Act.{Act}
-use Rattle.trace_file.specs.declared.act.Act.TheVariants.{Put, Remove, Hit, Miss}
 use Rattle.trace_file.specs.declared.call.Call.{Call}
 use Rattle.trace_file.specs.Calls.{value_of, time_of}
-use Rattle.certificate_finder.specs.declared.call_kind.CallKind.{CallKind}
-use Rattle.certificate_finder.specs.declared.call_kind.CallKind.TheVariants as kinds
+use Rattle.trace_file.specs.Kinds.{kind_of}
+use Rattle.trace_file.specs.declared.call_kind.CallKind.{CallKind}
+use Rattle.trace_file.specs.declared.call_kind.CallKind.TheVariants as kinds
 use Rattle.certificate_finder.specs.declared.numbered_call.NumberedCall.{NumberedCall}
-
--- the kind of an act
-abbrev pub kind_of : Act → CallKind
-kind_of (Put value expires) = kinds.Put
-kind_of Remove = kinds.Remove
-kind_of (Hit value moment) = kinds.Hit
-kind_of Miss = kinds.Miss
-
--- puts and removes write
-abbrev pub IsWriting : CallKind → Type 0
-IsWriting kinds.Put = Unit {0}
-IsWriting kinds.Remove = Unit {0}
-IsWriting kinds.Hit = ⊥
-IsWriting kinds.Miss = ⊥
 
 -- what a call does and when, in numbers
 pub record IsStep (call : Call) (step : NumberedCall) : Type 0 where

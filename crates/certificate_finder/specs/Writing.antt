@@ -4,7 +4,7 @@ use Rattle.std.specs.List.Sorted.{IsNonDecreasingBy}
 use Rattle.certificate_finder.specs.declared.numbered_call.NumberedCall.{NumberedCall}
 use Rattle.certificate_finder.specs.declared.write.Write.{Write}
 use Rattle.certificate_finder.specs.Lists.{Lists}
-use Rattle.certificate_finder.specs.Steps.{IsWriting}
+use Rattle.trace_file.specs.Kinds.{IsWriting}
 
 -- a write is what its call is
 pub record TellsWrite (position : ℕ) (step : NumberedCall) (write : Write) : Type 0 where

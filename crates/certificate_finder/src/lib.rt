@@ -4,7 +4,6 @@
 mod asked;
 mod best;
 mod by_ends;
-mod call_kind;
 mod call_span;
 mod choosing;
 mod crossed;
@@ -29,7 +28,6 @@ mod lateness;
 mod laws;
 mod leaved_puts;
 mod leaves;
-mod lent_word;
 mod line;
 mod linked_puts;
 mod links;

@@ -7,13 +7,12 @@ ghost use Rattle.certificate_finder.specs.Owning.{AreOwners};
 ghost use Rattle.certificate_finder.specs.Steps.{AreSteps};
 ghost use Rattle.certificate_finder.specs.Zones.{AreDistinct, AreZones, FollowOn};
 
-use crate::call_kind::CallKind;
 use crate::items::item_at;
 use crate::numbered_call::NumberedCall;
 use crate::ranked::Ranked;
 use crate::zone::Zone;
 use std::alloc::{AllocError, Global};
-use trace_file::Certificate;
+use trace_file::{CallKind, Certificate};
 
 /// The calls of a history by points of time, if each hit goes with a put that it can have read and the zones follow on.
 /// Each list is given back once the next one stands.

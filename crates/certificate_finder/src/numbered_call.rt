@@ -1,12 +1,9 @@
 // A call in numbers.
-ghost use Rattle.std.specs.Prelude.{◌≡◌, ◌<◌, Some, length, slice_get};
-ghost use Rattle.trace_file.specs.Lent.{act_shown};
-ghost use Rattle.certificate_finder.specs.Steps.{kind_of as kind_of_act};
+ghost use Rattle.std.specs.Prelude.{◌≡◌};
 
-use crate::call_kind::CallKind;
 use crate::call_span::CallSpan;
 use crate::stamp::Stamp;
-use trace_file::{ActRef, CallRef};
+use trace_file::{CallKind, CallRef};
 
 /// A call, with a number in place of its key and one in place of its value.
 #[derive(Clone, Copy)]
@@ -37,7 +34,7 @@ impl NumberedCall {
         ensures value { result.value ≡ value }
         ensures step { IsStep (call_shown call.now) result }
     {
-        let kind = kind_of(&call.act);
+        let kind = call.act.kind();
         NumberedCall {
             key,
             value,
@@ -73,17 +70,5 @@ impl NumberedCall {
             start: self.start,
             end: self.end,
         }
-    }
-}
-
-/// The kind of an act.
-fn kind_of(act: &ActRef<'_>) -> CallKind
-    ensures { result ≡ kind_of_act (act_shown act.now) }
-{
-    match act {
-        ActRef::Put(..) => CallKind::Put,
-        ActRef::Remove => CallKind::Remove,
-        ActRef::Hit(..) => CallKind::Hit,
-        ActRef::Miss => CallKind::Miss,
     }
 }

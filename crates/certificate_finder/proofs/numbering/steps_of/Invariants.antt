@@ -1,4 +1,4 @@
-use Rattle.certificate_finder.specs.Numbers.{number_at}
+use Rattle.trace_file.specs.Numbers.{number_at}
 use Rattle.certificate_finder.proofs.StepLemmas.{StepsSoFar}
 use Rattle.certificate_finder.proofs.numbering.steps_of.Given as goal
 
