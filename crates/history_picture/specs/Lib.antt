@@ -20,5 +20,4 @@ pub mod Rows
 pub mod Scale
 pub mod Sentences
 pub mod Shown
-pub mod Written
 pub mod Wrapping

@@ -6,16 +6,10 @@ ghost use Rattle.history_picture.specs.Names.{names_of};
 use trace_file::{CallRef, History};
 
 /// The call at a position, if there is one.
-#[tactic(auto, using(std::proofs::lemmas::Option::slice_get_past))]
 pub(crate) fn call_at(history: &History, position: u32) -> Option<CallRef<'_>>
     ensures { slice_get history.now position ≡ option_map call_shown result }
 {
-    let position = position as usize;
-    if position < history.len() {
-        Some(history.at(position))
-    } else {
-        None
-    }
+    history.get(position as usize)
 }
 
 /// The line of the call at a position, if it has one.

@@ -1,17 +1,18 @@
+// Why a picture was not written.
 ghost use Rattle.std.specs.Prelude.{◌≡◌};
 ghost use Rattle.history_picture.specs.declared.explain_fault.ExplainFault.TheVariants.{OutOfMemory};
 
 use std::alloc::AllocError;
 use thiserror::Error;
 
-/// Why an explanation or a picture was not written.
+/// Why a picture was not written.
 #[derive(Clone, Copy, Debug, PartialEq, Eq, Error)]
 pub enum ExplainFault {
     /// Memory was refused. Nothing was written.
     #[error("out of memory")]
     OutOfMemory,
-    /// The writer failed. It may have taken a front of the text.
-    #[error("the text was not written")]
+    /// The writer failed. It may have taken a front of the picture.
+    #[error("the picture was not written")]
     WriteFault,
 }
 

@@ -31,7 +31,7 @@ mod strokes;
 mod wrapping;
 
 pub use explain_fault::ExplainFault;
-pub use explaining::{explain, explanation};
+pub use explaining::explanation;
 pub use latest::Latest;
 pub use picturing::{draw, picture};
 pub use reason::Reason;

@@ -1,7 +1,7 @@
 //! A whole explanation, and what a picture has.
 use crate::tests::made::history_of;
 use certificate_finder::{Excluded, Excuse, Witness};
-use history_picture::{ExplainFault, Reason, Scene, draw, explain, explanation, picture};
+use history_picture::{ExplainFault, Reason, Scene, draw, explanation, picture};
 use std::alloc::{AllocError, Global};
 use std::io;
 use std::io::{Error, ErrorKind, Write};
@@ -97,15 +97,14 @@ fn names_of(alloc: Global, name: &[u8]) -> Result<Vec<Vec<u8>>, AllocError> {
     Ok(names)
 }
 
-/// What writing them to a writer that fails gives.
+/// Whether a picture is refused by a writer that fails.
 fn is_refused(alloc: Global, history: &History, reason: &Reason) -> bool {
     let scene = Scene {
         history,
         lines: &[],
         callers: &[],
     };
-    explain(alloc, &scene, reason, &mut Failing) == Err(ExplainFault::WriteFault)
-        && draw(alloc, &scene, reason, &mut Failing) == Err(ExplainFault::WriteFault)
+    draw(alloc, &scene, reason, &mut Failing) == Err(ExplainFault::WriteFault)
 }
 
 #[test]
