@@ -1,5 +1,5 @@
 -- One word more has a number.
-use Rattle.std.proofs.Common.{◌≡◌, ℕ, ◌+◌, Bool, true, false, cond, ◌⊎◌, Option, Some, None, List, refl, sym, ap, ◌∙◌, arith, inl, inr}
+use Rattle.std.proofs.Common.{◌≡◌, ◌≢◌, ℕ, ◌+◌, Bool, true, false, cond, ◌⊎◌, Option, Some, None, List, refl, sym, ap, ◌∙◌, arith, inl, inr}
 use Rattle.std.specs.Str.{bytes_eq}
 use Rattle.std.specs.Cmp.Lexicographic.{bytes_decides}
 use Rattle.std.proofs.lemmas.Option.{none-some}
@@ -14,16 +14,21 @@ keeps : (b : Bool) (n number : ℕ) (old : Option ℕ) → old ≡ Some number �
 keeps true n number old e none = absurd (none-some number (sym (none refl) ∙ e))
 keeps false n number old e none = e
 
-module _ (old new : List ℕ → Option ℕ) (word : List ℕ) (n : ℕ) (fresh : old word ≡ None) (change : (q : List ℕ) → new q ≡ cond (bytes_eq word q) (Some n) (old q)) where
+apart : (b : Bool) (n : ℕ) (old : Option ℕ) → (b ≡ true → ⊥) → cond b (Some n) old ≡ old
+apart true n old other = absurd (other refl)
+apart false n old other = refl
+
+module _ (old new : List ℕ → Option ℕ) (word : List ℕ) (n : ℕ) (change : (q : List ℕ) → new q ≡ cond (bytes_eq word q) (Some n) (old q)) where
   is_word : (q : List ℕ) → bytes_eq word q ≡ true → word ≡ q
   is_word q h = (bytes_decides word q).0 h
 
-  pub keeps_numbers : KeepsNumbers old new
-  keeps_numbers q number has =
+  pub keeps_numbers : old word ≡ None → KeepsNumbers old new
+  keeps_numbers fresh q number has =
       change q ∙ keeps (bytes_eq word q) n number (old q) has (λ same. ap old (sym (is_word q same)) ∙ fresh)
 
-  pub has_number : new word ≡ Some n
-  has_number = change word ∙ ap (λ b. cond b (Some n) (old word)) ((bytes_decides word word).1 refl)
+  pub keeps_other : (q : List ℕ) → q ≢ word → new q ≡ old q
+  keeps_other q other =
+      change q ∙ apart (bytes_eq word q) n (old q) (λ same. other (sym (is_word q same)))
 
   pub are_numbers : AreNumbers old n → AreNumbers new (n + 1)
   are_numbers known = record {
