@@ -11,4 +11,4 @@ returns-then-not-is_numeral c = elim c.then-not-is_numeral.branch [
 ]
 
 pub returns : goal.returns
-returns c = ap Some c.value.ensures ∙ number_some c.args.word.now (search (rules, tests)) (omega arith)
+returns c = ap Some c.digits_value.ensures ∙ number_some c.args.word.now (search (rules, tests)) (omega arith)
