@@ -10,5 +10,5 @@ pub enum Figure<'a> {
     /// A text. In a JSON object it is a string.
     Word(&'a str),
     /// Some numbers. In a JSON object they are an array.
-    Numbers(&'a [u32]),
+    Numbers(&'a [u64]),
 }

@@ -88,14 +88,14 @@ fn push_parted(
     alloc: Global,
     text: &mut String,
     mark: &str,
-    numbers: &[u32],
+    numbers: &[u64],
 ) -> Result<(), AllocError>
     ensures { OnOk result (string_bytes text.new ≡ string_bytes text.old ++ parted mark.now numbers.now) }
 {
     let Some((first, rest)) = numbers.split_first() else {
         return Ok(());
     };
-    push_number(alloc, text, u64::from(*first))?;
+    push_number(alloc, text, *first)?;
     push_rest(alloc, text, mark, rest)
 }
 
@@ -104,14 +104,14 @@ fn push_rest(
     alloc: Global,
     text: &mut String,
     mark: &str,
-    numbers: &[u32],
+    numbers: &[u64],
 ) -> Result<(), AllocError>
     ensures { OnOk result (string_bytes text.new
         ≡ string_bytes text.old ++ flat_map (λ n. mark.now ++ decimal n) numbers.now) }
 {
     for number in numbers {
         text.push_str(mark)?;
-        push_number(alloc, text, u64::from(*number))?;
+        push_number(alloc, text, *number)?;
     }
     Ok(())
 }

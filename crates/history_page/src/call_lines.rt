@@ -13,7 +13,7 @@ use trace_file::CallRef;
 
 /// The number of the line of the call at a position; its position if it has no line.
 #[tactic(auto, using(std::proofs::lemmas::Option::slice_get_past))]
-fn line_number(lines: &[u32], position: usize) -> usize
+fn line_number(lines: &[u64], position: usize) -> usize
     ensures { result ≡ line_number (slice_get lines.now position) position }
 {
     if position < lines.len() {

@@ -66,7 +66,7 @@ impl Drawing {
     fn bar(
         &self,
         alloc: Global,
-        lines: &[u32],
+        lines: &[u64],
         room: u128,
         marked: bool,
         position: u32,
@@ -222,7 +222,7 @@ fn reaching(alloc: Global, last: u128, bottom: u128) -> Result<String, AllocErro
 #[tactic(auto, unfolding(crate::specs::Pictures::title_text))]
 fn title(
     alloc: Global,
-    lines: &[u32],
+    lines: &[u64],
     position: u32,
     call: &CallRef<'_>,
 ) -> Result<String, AllocError>

@@ -14,7 +14,7 @@ pub(crate) fn call_at(history: &History, position: u32) -> Option<CallRef<'_>>
 
 /// The line of the call at a position, if it has one.
 #[tactic(auto, using(std::proofs::lemmas::Option::slice_get_past))]
-pub(crate) fn line_at(lines: &[u32], position: u32) -> Option<u32>
+pub(crate) fn line_at(lines: &[u64], position: u32) -> Option<u64>
     ensures { slice_get lines.now position ≡ result }
 {
     let position = position as usize;

@@ -22,7 +22,7 @@ pub(crate) struct CallWords {
 }
 
 /// Where the call at a position was recorded.
-pub(crate) fn label(alloc: Global, lines: &[u32], position: u32) -> Result<String, AllocError>
+pub(crate) fn label(alloc: Global, lines: &[u64], position: u32) -> Result<String, AllocError>
     ensures { IfOk result (λ label. string_bytes label ≡ label_of lines.now position) }
 {
     match line_at(lines, position) {

@@ -51,7 +51,7 @@ fn label_line(history: &History, marks: &[u32], shown: &[u32], position: u32) ->
 #[tactic(auto, unfolding(crate::specs::Labels::label_words_of))]
 fn label_words(
     alloc: Global,
-    lines: &[u32],
+    lines: &[u64],
     position: u32,
     call: &CallRef<'_>,
 ) -> Result<String, AllocError>

@@ -77,12 +77,12 @@ fn mark_of(marks: &[u32], position: u32) -> &'static str
 
 impl Scene<'_> {
     /// The number that tells where a call was recorded.
-    pub(crate) fn label_number(&self, position: u32) -> u32
+    pub(crate) fn label_number(&self, position: u32) -> u64
         ensures { result ≡ label_number (slice_get self.now.lines.now position) position }
     {
         match line_at(self.lines, position) {
             Some(line) => line,
-            None => position,
+            None => u64::from(position),
         }
     }
 

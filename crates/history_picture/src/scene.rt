@@ -10,7 +10,7 @@ pub struct Scene<'a> {
     /// The calls.
     pub history: &'a History,
     /// The line of each call, by its position. A call that has none here is named by its position.
-    pub lines: &'a [u32],
+    pub lines: &'a [u64],
     /// The callers' names, by their numbers. A caller that has none here is named by its number.
     pub callers: &'a [Vec<u8>],
 }

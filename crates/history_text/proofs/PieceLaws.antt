@@ -17,7 +17,7 @@ use Rattle.history_text.specs.declared.reading.Reading.{Reading}
 use Rattle.history_text.specs.declared.text_fault.TextFault.{TextFault}
 use Rattle.history_text.specs.declared.text_fault.TextFault.TheVariants as taking
 use Rattle.history_text.specs.declared.read_text_fault.ReadTextFault.{ReadTextFault}
-use Rattle.history_text.specs.declared.read_text_fault.ReadTextFault.TheVariants.{Bad, OutOfMemory, ReadFault}
+use Rattle.history_text.specs.declared.read_text_fault.ReadTextFault.TheVariants.{Bad, CountFull, OutOfMemory, ReadFault}
 use Rattle.history_text.specs.Outcome.{fault_at, of_read_line}
 use Rattle.history_text.specs.Laws.{TextsAreSpelled}
 use Rattle.history_text.specs.Pieces.{AreFirst, GoesOn, HasBefore, IsBadFrom, IsFaultFrom, LeftAfter, Progress, StopsAt, TakesPiece}
@@ -116,7 +116,7 @@ same_line : (how : Reading) (held : Text) (number : ℕ) (line : List ℕ) → S
 unfolding after_line
 same_line how held number line = elim (cases_Bool (nat_lt 8192 (length line))) [
   | inl long ↦ rw long (same_err held causes.TooLong)
-  | inr short ↦ elim (cases_Bool (nat_lt 4294967295 number)) [
+  | inr short ↦ elim (cases_Bool (nat_lt 9223372036854775807 number)) [
     | inl late ↦ rw (short, late) (same_err held causes.TooManyLines)
     | inr early ↦ elim (cases_Bool (is_passed_over line)) [
       | inl over ↦ rw (short, early, over) (same_ok held)
@@ -335,6 +335,7 @@ abbrev pub IsNumbered : ℕ → ReadTextFault → Type 0
 IsNumbered number (Bad first) = first.number ≡ number
 IsNumbered number ReadFault = Unit {0}
 IsNumbered number OutOfMemory = Unit {0}
+IsNumbered number CountFull = Unit {0}
 
 -- how far a text was read, by its parts
 abbrev pub at : Reading → ℕ → ℕ → Ahead → Progress
@@ -540,6 +541,7 @@ then_fault None mid old between held text (Bad first) piece then = tt
 then_fault (Some bytes) mid old between held text (Bad first) piece then = fault_some bytes mid old between held text first piece then
 then_fault left mid old between held text ReadFault piece then = tt
 then_fault left mid old between held text OutOfMemory piece then = tt
+then_fault left mid old between held text CountFull piece then = absurd then
 
 err_more : (said : Result TextRead BadLine) (a b : ℕ) → b ≤ a → IfErr said (λ first. a ≤ first.number) → IfErr said (λ first. b ≤ first.number)
 err_more (Ok r) a b less is = tt
@@ -587,6 +589,7 @@ stops_here left old held text (Bad first) same at is = subst (λ (t : Text). Sto
 })
 stops_here left old held text ReadFault same at is = tt
 stops_here left old held text OutOfMemory same at is = tt
+stops_here left old held text CountFull same at is = absurd is
 
 -- the same after a piece
 pub then_stop : (left mid : Option (List ℕ)) (old between : Progress) (held text other : Text) (fault : ReadTextFault) → TakesPiece left old held mid between text → HasBefore mid between text other fault → HasBefore left old held other fault
@@ -599,6 +602,7 @@ then_stop left mid old between held text other (Bad first) piece then = record {
 }
 then_stop left mid old between held text other ReadFault piece then = tt
 then_stop left mid old between held text other OutOfMemory piece then = tt
+then_stop left mid old between held text other CountFull piece then = absurd then
 
 pub is_numbered : (number : ℕ) (fault : TextFault) → IsNumbered number (fault_at number fault)
 is_numbered number (taking.Bad cause) = refl

@@ -188,11 +188,11 @@ abbrev state : List Call → List ℕ → List ℕ → Text
 state calls lines callers = record { calls = calls; lines = lines; callers = map name_of callers }
 
 -- a line that reads is recorded
-line_after : (text : Text) (number : ℕ) (call : Call) → Reads call → number ≤ 4294967295 → after_line of_history whole text number (line call) ≡ recorded of_history text number (spelled call)
+line_after : (text : Text) (number : ℕ) (call : Call) → Reads call → number ≤ 9223372036854775807 → after_line of_history whole text number (line call) ≡ recorded of_history text number (spelled call)
 unfolding after_line recorded_if is_in_share
 line_after text number call is few =
     let short : nat_lt 8192 (length (line call)) ≡ false = not_less 8192 (length (line call)) is.fits in
-    let early : nat_lt 4294967295 number ≡ false = not_less 4294967295 number few in
+    let early : nat_lt 9223372036854775807 number ≡ false = not_less 9223372036854775807 number few in
     rw (short, early, is.spells) refl
 
 recorded_is : (calls : List Call) (lines callers : List ℕ) (number : ℕ) (call : Call) → Met callers → call.caller < 2 ^ 16 → length calls < 268435456 → recorded of_history (state calls lines callers) number (spelled call) ≡ Ok (state (calls ++ call_by (position_or_len (eqb call.caller) callers) (spelled call) ∷ []) (lines ++ number ∷ []) (met callers call.caller))

@@ -26,3 +26,24 @@ said_caller text number s (Bad cause) few is =
     let calls = lt-ltb (length text.calls) 268435456 few in
     let callers = not_less (number_of text.callers s.caller) 65536 is.1 in rw (calls, callers) (let same = is.0 in cc)
 said_caller text number s OutOfMemory few is = tt
+
+-- ---- a line that may be passed over
+
+module _ (how : Reading) (read : TextRead) (cause : LineCause) where
+  skips : (after : ℕ) (may : Bool) → (if may then Ok (suc read.skipped) else Err (Bad cause)) ≡ Ok after → (if may then Ok (read_by read.text (suc read.skipped)) else Err cause) ≡ Ok (read_by read.text after)
+  skips after true is = let same = is in cc
+  skips after false is = let same = is in cc
+
+  stops : (told : TextFault) (may : Bool) → (if may then Ok (suc read.skipped) else Err (Bad cause)) ≡ Err told → IsSaid (if may then Ok (read_by read.text (suc read.skipped)) else Err cause) told
+  stops (Bad told) true is = let same = is in cc
+  stops (Bad told) false is = let same = is in cc
+  stops OutOfMemory may is = tt
+
+pub passed_over : (how : Reading) (read : TextRead) (said : Result Text LineCause) (fault : TextFault) (after : ℕ) → IsSaid said fault → skipped_or how read.skipped fault ≡ Ok after → passing how read said ≡ Ok (read_by read.text after)
+passed_over how read said (Bad cause) after is skipped = rw is (skips how read cause after (how.skip_bad && is_of_line cause) skipped)
+passed_over how read said OutOfMemory after is skipped = let same = skipped in cc
+
+pub not_passed : (how : Reading) (read : TextRead) (said : Result Text LineCause) (fault told : TextFault) → IsSaid said fault → skipped_or how read.skipped fault ≡ Err told → IsSaid (passing how read said) told
+not_passed how read said (Bad cause) told is skipped = rw is (stops how read cause told (how.skip_bad && is_of_line cause) skipped)
+not_passed how read said OutOfMemory (Bad told) is skipped = let same = skipped in cc
+not_passed how read said OutOfMemory OutOfMemory is skipped = tt

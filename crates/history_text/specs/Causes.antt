@@ -8,7 +8,7 @@ use Rattle.history_text.specs.declared.line_cause.LineCause.TheVariants.{TooLong
 -- the message of a cause: what is wrong, and what is wanted
 abbrev pub cause_text : LineCause → List ℕ
 cause_text TooLong = codes "the line is too long: a line has at most 8192 bytes"
-cause_text TooManyLines = codes "too many lines: a text has at most 4294967295"
+cause_text TooManyLines = codes "too many lines: a text has at most 9223372036854775807"
 cause_text NotWords = codes "a line has five to seven words of printable ASCII, separated by single spaces: CALLER START END put|hit|miss|remove KEY [VALUE [TIME]]"
 cause_text BadStart = codes "START must be a number below 2^63, in decimal without leading zeros"
 cause_text BadEnd = codes "END must be a number below 2^63, in decimal without leading zeros, or - if the call never returned"

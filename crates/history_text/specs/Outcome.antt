@@ -8,7 +8,7 @@ use Rattle.history_text.specs.declared.line_cause.LineCause.TheVariants.{TooMany
 use Rattle.history_text.specs.declared.text_fault.TextFault.{TextFault}
 use Rattle.history_text.specs.declared.text_fault.TextFault.TheVariants as taking
 use Rattle.history_text.specs.declared.read_text_fault.ReadTextFault.{ReadTextFault}
-use Rattle.history_text.specs.declared.read_text_fault.ReadTextFault.TheVariants.{Bad, ReadFault, OutOfMemory}
+use Rattle.history_text.specs.declared.read_text_fault.ReadTextFault.TheVariants.{Bad, ReadFault, OutOfMemory, CountFull}
 use Rattle.history_text.specs.declared.reading.Reading.{Reading}
 use Rattle.history_text.specs.Text.{TextRead, no_text, of_history, read_by, read_from, text_of}
 
@@ -32,6 +32,7 @@ abbrev pub IsFaultOf : Reading → List ℕ → ReadTextFault → Type 0
 IsFaultOf how bytes (Bad bad) = text_of how bytes ≡ Err bad
 IsFaultOf how bytes ReadFault = Unit {0}
 IsFaultOf how bytes OutOfMemory = Unit {0}
+IsFaultOf how bytes CountFull = ⊥
 
 -- what was read of a text that has a fault, from the line of a number on: whole lines, none of them bad, and at most 12,288 bytes after those. At a failed read no line of the latter is whole, so a bad line that was read is reported first
 pub record LeftFrom (how : Reading) (read : TextRead) (number : ℕ) (old new : Option (List ℕ)) (fault : ReadTextFault) : Type 0 where

@@ -6,7 +6,7 @@ use Rattle.trace_file.specs.declared.call.Call.{Call}
 use Rattle.history_text.specs.declared.bad_line.BadLine.{BadLine}
 use Rattle.history_text.specs.declared.line_cause.LineCause.TheVariants.{TooManyCalls}
 use Rattle.history_text.specs.declared.read_text_fault.ReadTextFault.{ReadTextFault}
-use Rattle.history_text.specs.declared.read_text_fault.ReadTextFault.TheVariants.{Bad, ReadFault, OutOfMemory}
+use Rattle.history_text.specs.declared.read_text_fault.ReadTextFault.TheVariants.{Bad, ReadFault, OutOfMemory, CountFull}
 use Rattle.history_text.specs.declared.reading.Reading.{Reading}
 use Rattle.history_text.specs.Outcome.{LeftFrom}
 use Rattle.history_text.specs.Text.{Room, Text, TextRead, endless, of_history, read_by, read_from, text_by}
@@ -60,6 +60,7 @@ abbrev pub IsFaultFrom : Option (List ℕ) → Progress → Text → ReadTextFau
 IsFaultFrom left old held (Bad bad) = IfSome left (λ bytes. IsBadFrom bytes old held bad)
 IsFaultFrom left old held ReadFault = Unit {0}
 IsFaultFrom left old held OutOfMemory = Unit {0}
+IsFaultFrom left old held CountFull = ⊥
 
 -- the text has what the lines before the bad one say: these were taken, and the line after them is the bad one
 pub record StopsAt (left : Option (List ℕ)) (old : Progress) (held text : Text) (bad : BadLine) : Type 0 where
@@ -74,6 +75,7 @@ abbrev pub HasBefore : Option (List ℕ) → Progress → Text → Text → Read
 HasBefore left old held text (Bad bad) = StopsAt left old held text bad
 HasBefore left old held text ReadFault = Unit {0}
 HasBefore left old held text OutOfMemory = Unit {0}
+HasBefore left old held text CountFull = ⊥
 
 -- how far a reader was read at a fault
 abbrev pub LeftAfter : Option (List ℕ) → Progress → Text → Option (List ℕ) → ReadTextFault → Type 0

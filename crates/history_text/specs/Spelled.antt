@@ -1,5 +1,5 @@
 -- What the code gives of a line, seen as the definitions have it.
-use Rattle.std.specs.Prelude.{◌≡◌, ℕ, List, Result, Err}
+use Rattle.std.specs.Prelude.{◌≡◌, ℕ, suc, ◌&&◌, List, if◌then◌else◌, Result, Ok, Err}
 use Rattle.trace_file.specs.declared.act.Act.{Act}
 use Rattle.trace_file.specs.declared.act.Act.TheVariants as acts
 use Rattle.history_text.specs.declared.line_cause.LineCause.{LineCause}
@@ -8,6 +8,8 @@ use Rattle.history_text.specs.declared.line_kind.LineKind.TheVariants.{Put, Hit,
 use Rattle.history_text.specs.declared.text_fault.TextFault.{TextFault}
 use Rattle.history_text.specs.declared.text_fault.TextFault.TheVariants.{Bad, OutOfMemory}
 use Rattle.history_text.specs.declared.spelling.Spelling.{Spelling}
+use Rattle.history_text.specs.declared.reading.Reading.{Reading}
+use Rattle.history_text.specs.Readings.{is_of_line}
 use Rattle.history_text.specs.Spelling.{Spelled}
 
 -- the act of a kind, with the value and the time if it has them
@@ -31,3 +33,8 @@ spelled_by s key value = record {
 abbrev pub IsSaid : {A : Type 0} → Result A LineCause → TextFault → Type 0
 IsSaid said (Bad cause) = said ≡ Err cause
 IsSaid said OutOfMemory = Unit {0}
+
+-- how many lines were passed over with one for which this is said, if so many were before it; or what is said, if the line may not be passed over
+abbrev pub skipped_or : Reading → ℕ → TextFault → Result ℕ TextFault
+skipped_or how skipped (Bad cause) = if how.skip_bad && is_of_line cause then Ok (suc skipped) else Err (Bad cause)
+skipped_or how skipped OutOfMemory = Err OutOfMemory

@@ -70,7 +70,7 @@ is_passed_over (b ∷ rest) = b == 35
 unfoldable pub after_line : Room → Reading → Text → ℕ → List ℕ → Result Text LineCause
 after_line room how text number line =
     if nat_lt 8192 (length line) then Err TooLong
-    else (if nat_lt 4294967295 number then Err TooManyLines
+    else (if nat_lt 9223372036854775807 number then Err TooManyLines
     else (if is_passed_over line then Ok text
     else (spelled_of line >>= recorded_if room how text number)))
 

@@ -34,9 +34,9 @@ fn push_at(calls: &mut History, history: &History, position: usize) -> Result<()
 /// The lines at these positions. A position at which no line stands is passed over.
 pub(crate) fn lines_at(
     alloc: Global,
-    lines: &[u32],
+    lines: &[u64],
     positions: &[u32],
-) -> Result<Vec<u32>, AllocError>
+) -> Result<Vec<u64>, AllocError>
     ensures { IfOk result (λ kept. kept.items ≡ filter_map (slice_get lines.now) positions.now) }
 {
     let mut kept = Vec::new(alloc);
@@ -47,7 +47,7 @@ pub(crate) fn lines_at(
 }
 
 /// Puts the line at a position, if there is one, after the others.
-fn push_line_at(kept: &mut Vec<u32>, lines: &[u32], position: usize) -> Result<(), AllocError>
+fn push_line_at(kept: &mut Vec<u64>, lines: &[u64], position: usize) -> Result<(), AllocError>
     ensures { OnOk result (kept.new.items
         ≡ kept.old.items ++ filter_map (slice_get lines.now) (position ∷ [])) }
 {

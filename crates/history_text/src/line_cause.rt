@@ -9,7 +9,7 @@ use std::fmt;
 pub enum LineCause {
     /// The line has more than 8,192 bytes.
     TooLong,
-    /// There are more than 4,294,967,295 lines.
+    /// There are more than 9,223,372,036,854,775,807 lines, 2^63 - 1.
     TooManyLines,
     /// The line does not have five to seven words of the bytes 21 to 7e, separated by single spaces.
     NotWords,
@@ -67,7 +67,7 @@ impl LineCause {
     {
         match self {
             LineCause::TooLong => "the line is too long: a line has at most 8192 bytes",
-            LineCause::TooManyLines => "too many lines: a text has at most 4294967295",
+            LineCause::TooManyLines => "too many lines: a text has at most 9223372036854775807",
             LineCause::NotWords =>
                 "a line has five to seven words of printable ASCII, separated by single spaces: CALLER START END put|hit|miss|remove KEY [VALUE [TIME]]",
             LineCause::BadStart =>

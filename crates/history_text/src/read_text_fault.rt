@@ -13,6 +13,8 @@ pub enum ReadTextFault {
     ReadFault,
     /// Memory was refused.
     OutOfMemory,
+    /// There are more calls than 64 bits can count. Reading a whole text never gives this fault, since a history ends long before.
+    CountFull,
 }
 
 impl From<ReadLineFault> for ReadTextFault {

@@ -1,6 +1,7 @@
 // A history that was read from a text, with what the text says beside it.
-ghost use Rattle.std.specs.Prelude.{◌≡◌, ◌≢◌, ◌+◌, ◌<◌, ◌≤◌, ◌^◌, Ok, true, length, slice_get, IfOk, IfErr, OnErr, OnOk};
+ghost use Rattle.std.specs.Prelude.{◌≡◌, ◌≢◌, ◌+◌, ◌<◌, ◌≤◌, ◌^◌, Ok, false, length, slice_get, IfOk, IfErr, OnErr, OnOk};
 ghost use Rattle.std.specs.List.{filter_map};
+ghost use Rattle.history_text.specs.Spelled.{skipped_or};
 
 use crate::callers::Callers;
 use crate::keeping::{history_at, lines_at};
@@ -18,7 +19,7 @@ use trace_file::{CallRef, History};
 const MAX_CALLS: usize = 268435456;
 
 /// The number of the last line that a text may have.
-const MAX_LINES: u64 = 4294967295;
+const MAX_LINES: u64 = 9223372036854775807;
 
 /// A history that was read from a text, with the line of each call and the names of its callers.
 #[derive(Drop)]
@@ -26,13 +27,13 @@ pub struct TextHistory<S: BuildHasher> {
     /// The calls, in the order of their lines.
     pub history: History,
     /// The number of the line of each call, by the call's position; the first line of the text has the number 1.
-    pub lines: Vec<u32>,
+    pub lines: Vec<u64>,
     /// The callers, numbered as they first appear.
     pub callers: Callers<S>,
 }
 
 impl<S: BuildHasher> TextHistory<S> {
-    ghost use Rattle.history_text.specs.Text.{no_text, after_line, of_history, read_by, recorded, recorded_if, text_by, with_line};
+    ghost use Rattle.history_text.specs.Text.{no_text, of_history, read_by, recorded, text_by, with_line};
     ghost use Rattle.history_text.specs.Readings.{is_of_line};
     ghost use Rattle.history_text.specs.Spelled.{IsSaid, spelled_by};
     ghost use Rattle.record_pages.specs.Bounded.{IsKey, IsValue};
@@ -88,86 +89,29 @@ impl<S: BuildHasher> TextHistory<S> {
             with_line of_history reading
             (read_by (text_by self.old.history self.old.lines.items self.old.callers) skipped) number line.now)) }
         ensures kept { IfErr result (λ fault. fault ≢ TextFault.OutOfMemory → self.new ≡ self.old) }
-        ensures few { OnOk result (number < 2 ^ 32) }
+        ensures few { OnOk result (number < 2 ^ 63) }
         ensures before { IfOk result (λ after. after ≤ skipped + 1) }
-    {
-        match self.take(alloc, reading, number, line, parts) {
-            Ok(()) => Ok(skipped),
-            Err(TextFault::OutOfMemory) => Err(TextFault::OutOfMemory),
-            Err(TextFault::Bad(cause)) => {
-                if reading.skip_bad && cause.is_of_line() {
-                    Ok(skipped + 1)
-                } else {
-                    Err(TextFault::Bad(cause))
-                }
-            }
-        }
-    }
-
-    /// Takes the next line, of at most `MAX_TEXT_LINE_LEN` bytes. A bad line leaves the text as it was.
-    #[tactic(auto, unfolding(crate::specs::Text::after_line), using(crate::proofs::Saying::said_on))]
-    pub(crate) fn take(
-        &mut self,
-        alloc: Global,
-        reading: Reading,
-        number: u64,
-        line: &[u8],
-        parts: &mut PairBytes,
-    ) -> Result<(), TextFault>
-        requires { length line.now ≤ 8192 }
-        ensures ok { OnOk result (
-            after_line of_history reading (text_by self.old.history self.old.lines.items self.old.callers) number line.now
-            ≡ Ok (text_by self.new.history self.new.lines.items self.new.callers)) }
-        ensures bad { IfErr result (IsSaid (
-            after_line of_history reading (text_by self.old.history self.old.lines.items self.old.callers) number line.now)) }
-        ensures kept { IfErr result (λ fault. fault ≢ TextFault.OutOfMemory → self.new ≡ self.old) }
-        ensures few { OnOk result (number < 2 ^ 32) }
-        ensures line { IfErr result (λ fault. (cause : LineCause) → fault ≡ TextFault.Bad cause
-            → is_of_line cause ≡ true → number < 2 ^ 32) }
     {
         if number > MAX_LINES {
             return Err(TextFault::Bad(LineCause::TooManyLines));
         }
         if is_passed_over(line) {
-            return Ok(());
+            return Ok(skipped);
         }
-        let number = number as u32;
         let spelling = match take_line(line, &mut parts.key, &mut parts.value) {
             Ok(spelling) => spelling,
-            Err(fault) => return Err(fault),
+            Err(fault) => {
+                return match skip_or(reading, skipped, fault) {
+                    Ok(skipped) => Ok(skipped),
+                    Err(fault) => Err(fault),
+                };
+            }
         };
-        match self.record_if(alloc, reading, number, &spelling, parts) {
-            Ok(()) => Ok(()),
-            Err(fault) => Err(fault),
-        }
-    }
-
-    /// Records the call that a line spells, if its key is one of those whose calls are read.
-    #[tactic(auto, unfolding(crate::specs::Text::recorded_if))]
-    fn record_if(
-        &mut self,
-        alloc: Global,
-        reading: Reading,
-        number: u32,
-        spelling: &Spelling<'_>,
-        parts: &PairBytes,
-    ) -> Result<(), TextFault>
-        requires key { IsKey parts.now.key.items }
-        requires value { IsValue parts.now.value.items }
-        ensures ok { OnOk result (
-            recorded_if of_history reading (text_by self.old.history self.old.lines.items self.old.callers) number
-            (spelled_by spelling.now parts.now.key.items parts.now.value.items)
-            ≡ Ok (text_by self.new.history self.new.lines.items self.new.callers)) }
-        ensures bad { IfErr result (IsSaid (
-            recorded_if of_history reading (text_by self.old.history self.old.lines.items self.old.callers) number
-            (spelled_by spelling.now parts.now.key.items parts.now.value.items))) }
-        ensures kept { IfErr result (λ fault. fault ≢ TextFault.OutOfMemory → self.new ≡ self.old) }
-    {
         if !reading.share.has(&parts.key) {
-            return Ok(());
+            return Ok(skipped);
         }
-        match self.record(alloc, number, spelling, parts) {
-            Ok(()) => Ok(()),
+        match self.record(alloc, number, &spelling, parts) {
+            Ok(()) => Ok(skipped),
             Err(fault) => Err(fault),
         }
     }
@@ -177,7 +121,7 @@ impl<S: BuildHasher> TextHistory<S> {
     fn record(
         &mut self,
         alloc: Global,
-        number: u32,
+        number: u64,
         spelling: &Spelling<'_>,
         parts: &PairBytes,
     ) -> Result<(), TextFault>
@@ -191,6 +135,8 @@ impl<S: BuildHasher> TextHistory<S> {
             recorded of_history (text_by self.old.history self.old.lines.items self.old.callers) number
             (spelled_by spelling.now parts.now.key.items parts.now.value.items))) }
         ensures kept { IfErr result (λ fault. fault ≢ TextFault.OutOfMemory → self.new ≡ self.old) }
+        ensures full { IfErr result (λ fault. (cause : LineCause) → fault ≡ TextFault.Bad cause
+            → is_of_line cause ≡ false) }
     {
         if self.history.len() >= MAX_CALLS {
             return Err(TextFault::Bad(LineCause::TooManyCalls));
@@ -209,5 +155,22 @@ impl<S: BuildHasher> TextHistory<S> {
             return Err(TextFault::OutOfMemory);
         };
         Ok(())
+    }
+}
+
+/// How many lines were passed over with one for which this was said, if so many were before it; or what was said, if the line may not be.
+fn skip_or(reading: Reading, skipped: u64, fault: TextFault) -> Result<u64, TextFault>
+    requires { skipped < 2 ^ 63 }
+    ensures { result ≡ skipped_or reading skipped fault }
+{
+    match fault {
+        TextFault::OutOfMemory => Err(TextFault::OutOfMemory),
+        TextFault::Bad(cause) => {
+            if reading.skip_bad && cause.is_of_line() {
+                Ok(skipped + 1)
+            } else {
+                Err(TextFault::Bad(cause))
+            }
+        }
     }
 }

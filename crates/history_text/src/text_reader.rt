@@ -39,7 +39,7 @@ impl Model for TextReader {
 
     ghost view = { λ r. record { reading = r.reading; number = r.number; skipped = r.skipped; ahead = r.ahead } };
 
-    ghost invariant = { λ r. (r.number ≤ 2 ^ 32) × (r.skipped < r.number) };
+    ghost invariant = { λ r. (r.number ≤ 2 ^ 63) × (r.skipped < r.number) };
 }
 
 impl TextReader {
@@ -135,7 +135,7 @@ impl TextReader {
             (text_by text.new.history text.new.lines.items text.new.callers)) }
         ensures one { OnOk result (length text.new.history ≤ length text.old.history + 1) }
         ensures more { IfOk result (λ more. more ≡ true → self.old.number < self.new.number) }
-        ensures few { self.new.number ≤ 2 ^ 32 }
+        ensures few { self.new.number ≤ 2 ^ 63 }
         ensures end { IfOk result (λ more. more ≡ false → IsAtEnd (R.remaining reader.new)) }
         ensures over { IfOk result (λ more. more ≡ false
             → IfSome (left_of self.old (R.remaining reader.old))

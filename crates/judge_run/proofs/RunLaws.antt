@@ -5,7 +5,7 @@ use Rattle.figures.specs.declared.form.Form.{Form}
 use Rattle.judge_run.specs.declared.judge_end.JudgeEnd.{JudgeEnd}
 use Rattle.judge_run.specs.declared.outcome.Outcome.{Outcome}
 use Rattle.judge_run.specs.declared.tell_fault.TellFault.{TellFault}
-use Rattle.judge_run.specs.declared.tell_fault.TellFault.TheVariants.{OutOfMemory, ReadFault, WriteFault}
+use Rattle.judge_run.specs.declared.tell_fault.TellFault.TheVariants.{OutOfMemory, CountFull, ReadFault, WriteFault}
 use Rattle.judge_run.specs.declared.outcome.Outcome.TheVariants.{Accepted, Rejected, Undecided, BadLine, BadTrace}
 use Rattle.judge_run.specs.Ends.{IsEnded, end_at_least, end_of_outcome, status_of}
 use Rattle.judge_run.specs.Runs.{CheckedOn}
@@ -28,5 +28,6 @@ module _ (form : Form) (known left old new : Option (List ℕ)) (explain : Bool)
   checked (Ok outcome) told (inr (inl is)) = absurd (other (ends ∙ ap status_of is))
   checked (Ok outcome) told (inr (inr is)) = absurd (other (ends ∙ ap status_of is))
   checked (Err OutOfMemory) told is = absurd (other (ends ∙ ap status_of is))
+  checked (Err CountFull) told is = absurd (other (ends ∙ ap status_of is))
   checked (Err ReadFault) told is = absurd (other (ends ∙ ap status_of is))
   checked (Err WriteFault) told is = absurd (other (ends ∙ ap status_of is))

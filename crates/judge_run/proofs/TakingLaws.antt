@@ -8,7 +8,7 @@ use Rattle.clock_skew.specs.Widening.{widened}
 use Rattle.history_text.specs.declared.bad_line.BadLine.{BadLine}
 use Rattle.history_text.specs.declared.line_cause.LineCause.TheVariants.{BeforeWindow}
 use Rattle.history_text.specs.declared.read_text_fault.ReadTextFault.{ReadTextFault}
-use Rattle.history_text.specs.declared.read_text_fault.ReadTextFault.TheVariants.{Bad, ReadFault, OutOfMemory}
+use Rattle.history_text.specs.declared.read_text_fault.ReadTextFault.TheVariants.{Bad, ReadFault, OutOfMemory, CountFull}
 use Rattle.history_text.specs.Pieces.{GoesOn, IsFaultFrom, Progress, StopsAt, TakesPiece}
 use Rattle.history_text.proofs.public_laws.Going.{first_then, goes_through, read_then}
 use Rattle.history_text.specs.Text.{Text, calls_of, endless, no_text, read_by, read_from, text_by}
@@ -180,6 +180,7 @@ early_at judged bound place line at first line_is =
 pub first_told : (scope : Scope) (window least : ℕ) (known left : Option (List ℕ)) (old : Progress) (kept : Text) (waiting : List Call) (waiting_lines : List ℕ) (piece : Text) (bound latest : ℕ) (forgotten : Forgotten) (bad : BadLine) (told : ReadTextFault) → IsGoing scope window least known left old kept waiting waiting_lines bound latest forgotten → IsFaultFrom left old (text_by [] [] kept.callers) (Bad bad) → StopsAt left old (text_by [] [] kept.callers) piece bad → length (text_scoped scope piece).calls ≤ piece_size least kept.calls waiting → IsFirstOf (text_scoped scope piece) bound bad told → IsStreamFault scope window least known told
 first_told scope window least known left old kept waiting waiting_lines piece bound latest forgotten bad OutOfMemory going fault stop few is = tt
 first_told scope window least known left old kept waiting waiting_lines piece bound latest forgotten bad ReadFault going fault stop few is = absurd is
+first_told scope window least known left old kept waiting waiting_lines piece bound latest forgotten bad CountFull going fault stop few is = absurd is
 first_told scope window least None left old kept waiting waiting_lines piece bound latest forgotten bad (Bad told) going fault stop few is = tt
 first_told scope window least (Some bytes) left old kept waiting waiting_lines piece bound latest forgotten bad (Bad told) going fault stop few is =
     let to = read_to scope window least (Some bytes) left stop.rest old stop.at kept waiting waiting_lines piece (text_scoped scope piece) bound latest forgotten going stop.piece refl few in

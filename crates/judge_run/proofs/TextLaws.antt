@@ -1,5 +1,6 @@
 -- What is told of a text, by what was found for what it spells.
 use Rattle.std.proofs.Common.{◌≡◌, ◌∙◌, ℕ, Bool, List, Option, ap, length, subst, sym}
+use Rattle.std.specs.Io.KnownBytes.{Appends}
 use Rattle.trace_file.specs.declared.call.Call.{Call}
 use Rattle.certificate_finder.specs.declared.found.Found.TheVariants as found
 use Rattle.certificate_finder.specs.declared.witness.Witness.{Witness}
@@ -15,12 +16,15 @@ use Rattle.judge_run.specs.declared.outcome.Outcome.TheVariants.{Accepted, Rejec
 use Rattle.judge_run.specs.declared.fault_list.FaultList.{FaultList}
 use Rattle.judge_run.specs.declared.rejection.Rejection.{Rejection}
 use Rattle.judge_run.specs.declared.scope.Scope.{Scope}
+use Rattle.judge_run.specs.declared.tell_fault.TellFault.{TellFault}
+use Rattle.judge_run.specs.declared.tell_fault.TellFault.TheVariants.{OutOfMemory, CountFull, ReadFault, WriteFault}
+use Rattle.judge_run.specs.Answers.{with_file}
 use Rattle.judge_run.specs.Extents.{own_of}
 use Rattle.judge_run.specs.FaultsTold.{listed, more_text}
 use Rattle.judge_run.specs.FromStart.{start_lines}
 use Rattle.judge_run.specs.Listing.{IsListed, key_count}
 use Rattle.judge_run.specs.Streams.{IsJudgedBy}
-use Rattle.judge_run.specs.TextTold.{IsHistoryTold, IsTextTold, RejectedTold, front_of, told_accepted, told_decided}
+use Rattle.judge_run.specs.TextTold.{IsHistoryTold, IsTextTold, IsTextUntold, IsUnwritten, RejectedTold, ToldText, front_of, told_accepted, told_decided}
 use Rattle.judge_run.specs.Told.{IsBehind}
 
 pub text_told : (form : Form) (scope : Scope) (known : Option (List ℕ)) (detail : Detail) (text : Text) (extent : Extent) (accepted decided : Bool) (outcome : Outcome) (told : List ℕ) → IsJudgedBy scope.window scope known accepted decided text extent → told_accepted outcome ≡ accepted → told_decided outcome ≡ decided → IsHistoryTold form text extent detail outcome told → IsTextTold form scope known detail outcome told
@@ -44,6 +48,20 @@ text_told form scope known detail text extent accepted decided (Undecided hits) 
 }
 text_told form scope known detail text extent accepted decided (BadLine bad) told judged a d is = absurd is
 text_told form scope known detail text extent accepted decided (BadTrace fault) told judged a d is = absurd is
+
+-- ---- what was written of a report
+
+module _ (form : Form) (scope : Scope) (known : Option (List ℕ)) (detail : Detail) (file : Option (List ℕ)) (outcome : Outcome) (told : List ℕ) (old new : Option (List ℕ)) (is : IsTextTold form scope known detail outcome told) where
+  -- all of it
+  pub text_written : (other : Outcome) → other ≡ outcome → Appends old new (with_file file told) → ToldText form scope known detail file other old new
+  text_written other same wrote = subst (λ (o : Outcome). ToldText form scope known detail file o old new) (sym same) (record { told = told; is = is; wrote = wrote })
+
+  -- not all of it
+  pub text_unwritten : (fault : TellFault) → IsUnwritten (with_file file told) old new fault → IsTextUntold form scope known detail file old new fault
+  text_unwritten OutOfMemory kept = kept
+  text_unwritten CountFull never = absurd never
+  text_unwritten ReadFault never = absurd never
+  text_unwritten WriteFault began = record { outcome = outcome; told = told; is = is; began = began }
 
 -- ---- a history that is rejected
 

@@ -30,33 +30,33 @@ pub fold_more : (statuses : List ℕ) (worst status : ℕ) → fold worse_of wor
 fold_more [] worst status = refl
 fold_more (s ∷ statuses) worst status = fold_more statuses (worse_of worst s) status
 
--- a file whose name was not written
-pub unheaded : (form : Form) (scope : Scope) (detail : Detail) (least : ℕ) (several : Bool) (file : List ℕ) (input left old new : Option (List ℕ)) (status : ℕ) → is_headed form several ≡ false → IsJudgeRun form scope detail (name_in form several file) least old new status → (IsStandardInput file → IsJudgeRunOn form scope input detail (name_in form several file) least old new status) → (¬ IsStandardInput file → left ≡ input) → JudgedFile form scope detail least several file input left old new status
-unheaded form scope detail least several file input left old new status none judged standard unread = record {
-  begun = old;
-  head = λ _. rw none refl;
-  judged = judged;
-  standard_input = standard;
-  unread = unread;
-}
-
--- one whose name was written first
-pub headed_file : (form : Form) (scope : Scope) (detail : Detail) (least : ℕ) (several : Bool) (file : List ℕ) (input left old begun new : Option (List ℕ)) (status : ℕ) → is_headed form several ≡ true → IsHeaded true file old begun → IsJudgeRun form scope detail (name_in form several file) least begun new status → (IsStandardInput file → IsJudgeRunOn form scope input detail (name_in form several file) least begun new status) → (¬ IsStandardInput file → left ≡ input) → JudgedFile form scope detail least several file input left old new status
-headed_file form scope detail least several file input left old begun new status is head judged standard unread = record {
-  begun = begun;
-  head = λ _. rw is head;
-  judged = judged;
-  standard_input = standard;
-  unread = unread;
-}
-
--- one whose name could not be written
-pub no_head : (form : Form) (scope : Scope) (detail : Detail) (least : ℕ) (several : Bool) (file : List ℕ) (input old new : Option (List ℕ)) (status : ℕ) → status ≡ 3 → JudgedFile form scope detail least several file input input old new status
-no_head form scope detail least several file input old new status is = record {
+-- one that has no verdict
+pub no_verdict : (form : Form) (scope : Scope) (detail : Detail) (least : ℕ) (several : Bool) (file : List ℕ) (input old new : Option (List ℕ)) (status : ℕ) → status ≡ 3 → JudgedFile form scope detail least several file input input old new status
+no_verdict form scope detail least several file input old new status is = record {
   begun = new;
   head = λ other. absurd (other is);
   judged = λ other. absurd (other is);
   standard_input = λ _. λ other. absurd (other is);
+  unread = λ _. refl;
+}
+
+-- the text of the standard input
+pub input_judged : (form : Form) (scope : Scope) (detail : Detail) (least : ℕ) (several : Bool) (file : List ℕ) (input left old begun new : Option (List ℕ)) (status : ℕ) → IsStandardInput file → IsHeaded (is_headed form several) file old begun → IsJudgeRunOn form scope input detail (name_in form several file) least begun new status → JudgedFile form scope detail least several file input left old new status
+input_judged form scope detail least several file input left old begun new status named head judged = record {
+  begun = begun;
+  head = λ _. head;
+  judged = λ other. record { known = input; is = judged other };
+  standard_input = λ _. judged;
+  unread = λ isnt. absurd (isnt named);
+}
+
+-- the text of a file
+pub file_judged : (form : Form) (scope : Scope) (detail : Detail) (least : ℕ) (several : Bool) (file : List ℕ) (known input old begun new : Option (List ℕ)) (status : ℕ) → ¬ IsStandardInput file → IsHeaded (is_headed form several) file old begun → IsJudgeRunOn form scope known detail (name_in form several file) least begun new status → JudgedFile form scope detail least several file input input old new status
+file_judged form scope detail least several file known input old begun new status isnt head judged = record {
+  begun = begun;
+  head = λ _. head;
+  judged = λ other. record { known = known; is = judged other };
+  standard_input = λ named. absurd (isnt named);
   unread = λ _. refl;
 }
 

@@ -7,7 +7,7 @@ use Rattle.judge_run.specs.declared.outcome.Outcome.TheVariants.{Accepted, Rejec
 use Rattle.judge_run.specs.declared.shown.Shown.{Shown}
 use Rattle.judge_run.specs.declared.shown.Shown.TheVariants as showing
 use Rattle.judge_run.specs.declared.tell_fault.TellFault.{TellFault}
-use Rattle.judge_run.specs.declared.tell_fault.TellFault.TheVariants.{OutOfMemory, ReadFault, WriteFault}
+use Rattle.judge_run.specs.declared.tell_fault.TellFault.TheVariants.{OutOfMemory, CountFull, ReadFault, WriteFault}
 
 -- how it ends, by the outcome of judging
 abbrev pub end_of_outcome : Outcome → JudgeEnd
@@ -34,6 +34,7 @@ end_of_shown (showing.TooLate position) = ends.BadInput
 -- how it ends if not all was reported
 abbrev pub end_of_fault : TellFault → JudgeEnd
 end_of_fault OutOfMemory = ends.OutOfMemory
+end_of_fault CountFull = ends.CountFull
 end_of_fault ReadFault = ends.FileFault
 end_of_fault WriteFault = ends.FileFault
 
@@ -44,6 +45,7 @@ status_of ends.Rejected = 1
 status_of ends.BadInput = 2
 status_of ends.TooFew = 2
 status_of ends.OutOfMemory = 3
+status_of ends.CountFull = 3
 status_of ends.FileFault = 3
 status_of ends.Undecided = 4
 

@@ -9,12 +9,12 @@ use Rattle.judge_run.specs.declared.forgotten.Forgotten.{Forgotten}
 abbrev pub own_of : Extent → ℕ → ℕ
 own_of extent calls = calls - unwrap_or extent.from_start 0
 
--- how many calls were judged and forgotten
+-- how many calls were judged and forgotten. A number that 64 bits can't hold stops at the last that they can, here and below
 abbrev pub forgotten_of : Option Forgotten → ℕ
 forgotten_of None = 0
-forgotten_of (Some gone) = gone.puts + gone.removals + gone.hits + gone.misses
+forgotten_of (Some gone) = min (gone.puts + gone.removals + gone.hits + gone.misses) (2 ^ 64 - 1)
 
--- so many calls, and those that were forgotten. A number that 64 bits can't hold stops at the last that they can
+-- so many calls, and those that were forgotten
 abbrev pub with_forgotten : ℕ → ℕ → ℕ
 with_forgotten own gone = min (own + gone) (2 ^ 64 - 1)
 

@@ -13,7 +13,7 @@ use Rattle.trace_file.specs.Text.{IsTrace}
 use Rattle.judge_run.specs.declared.shown.Shown.{Shown}
 use Rattle.judge_run.specs.declared.shown.Shown.TheVariants.{Whole, BadTrace, TooLate}
 use Rattle.judge_run.specs.declared.tell_fault.TellFault.{TellFault}
-use Rattle.judge_run.specs.declared.tell_fault.TellFault.TheVariants.{OutOfMemory, ReadFault, WriteFault}
+use Rattle.judge_run.specs.declared.tell_fault.TellFault.TheVariants.{OutOfMemory, CountFull, ReadFault, WriteFault}
 
 -- the line that says why some bytes are no trace
 abbrev pub bad_trace_text : TraceFault → List ℕ
@@ -71,11 +71,13 @@ pub data StoppedShowing (known only old new : Option (List ℕ)) : Type 0 where
 -- what was written if not all was shown; a failed read is reported as a bad trace
 abbrev pub IsUnshown : Option (List ℕ) → Option (List ℕ) → Option (List ℕ) → Option (List ℕ) → TellFault → Type 0
 IsUnshown known only old new OutOfMemory = StoppedShowing known only old new
+IsUnshown known only old new CountFull = ⊥
 IsUnshown known only old new ReadFault = ⊥
 IsUnshown known only old new WriteFault = BeganShowing known only old new
 
 -- what was written if the line of a bad trace was not written
 abbrev pub IsBadTraceUntold : TraceFault → Option (List ℕ) → Option (List ℕ) → TellFault → Type 0
 IsBadTraceUntold fault old new OutOfMemory = Keeps old new
+IsBadTraceUntold fault old new CountFull = ⊥
 IsBadTraceUntold fault old new ReadFault = ⊥
 IsBadTraceUntold fault old new WriteFault = Begun old new (bad_trace_text fault)

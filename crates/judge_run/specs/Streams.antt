@@ -6,14 +6,14 @@ use Rattle.clock_skew.specs.Widening.{widened}
 use Rattle.history_text.specs.declared.bad_line.BadLine.{BadLine}
 use Rattle.history_text.specs.declared.line_cause.LineCause.TheVariants.{BeforeWindow, TooManyCalls}
 use Rattle.history_text.specs.declared.read_text_fault.ReadTextFault.{ReadTextFault}
-use Rattle.history_text.specs.declared.read_text_fault.ReadTextFault.TheVariants.{Bad, ReadFault, OutOfMemory}
+use Rattle.history_text.specs.declared.read_text_fault.ReadTextFault.TheVariants.{Bad, ReadFault, OutOfMemory, CountFull}
 use Rattle.history_text.specs.Outcome.{IsFaultOf, Left}
 use Rattle.history_text.specs.Pieces.{AreFirst, GoesOn, IsFaultFrom, Progress}
 use Rattle.history_text.specs.Text.{Text, calls_of, endless, no_text, read_by, read_from, text_by}
 use Rattle.history_window.specs.Standing.{Acceptable, StartFrom}
 use Rattle.certificate_finder.specs.declared.found.Found.{Found}
 use Rattle.certificate_finder.specs.declared.found.Found.TheVariants as verdicts
-use Rattle.certificate_finder.specs.Finding.{IfRejected, IsFound}
+use Rattle.certificate_finder.specs.Finding.{AreUndecided, IfRejected, IsFound}
 use Rattle.history_window.specs.Streams.{ArePieces, IsKeptAfter, IsLastOf, Piece, added_in, bound_after, calls_in, decided_in, first_start, judged_in, judged_lines, last_end, lines_in, puts_in, waiting_in, waiting_lines_in}
 use Rattle.judge_run.specs.declared.extent.Extent.{Extent}
 use Rattle.judge_run.specs.declared.forgotten.Forgotten.{Forgotten}
@@ -152,6 +152,7 @@ pub record IsNoneBefore (scope : Scope) (window least : ℕ) (known : Option (Li
 abbrev pub IsFirstOf : Text → ℕ → BadLine → ReadTextFault → Type 0
 IsFirstOf text bound bad (Bad told) = ((told ≡ bad) × StartFrom bound text.calls) ⊎ ((told.cause ≡ BeforeWindow) × IsEarly bound text told.number)
 IsFirstOf text bound bad ReadFault = ⊥
+IsFirstOf text bound bad CountFull = ⊥
 IsFirstOf text bound bad OutOfMemory = Unit {0}
 
 -- from the beginning of some reading on there are more calls than a history may have: the bad line is that of the first one too many
@@ -169,13 +170,6 @@ pub record IsBadLine (scope : Scope) (window least : ℕ) (bytes : List ℕ) (ba
   pub spelled : bad.cause ≢ TooManyCalls → calls_of scope.reading bytes ≡ Err bad
   pub many : bad.cause ≡ TooManyCalls → AreTooMany scope (Some bytes) bad
   pub before : IsNoneBefore scope window least (Some bytes) bad.number
-
--- why a stream is not judged: its first bad line, or the first call that starts too early, whichever comes first; or the reader or memory refused something
-abbrev pub IsStreamFault : Scope → ℕ → ℕ → Option (List ℕ) → ReadTextFault → Type 0
-IsStreamFault scope window least known (Bad bad) =
-    IfSome known (λ bytes. IsBadLine scope window least bytes bad ⊎ ((bad.cause ≡ BeforeWindow) × IsBefore scope window least known bad.number))
-IsStreamFault scope window least known ReadFault = Unit {0}
-IsStreamFault scope window least known OutOfMemory = Unit {0}
 
 -- the last piece was judged: what was kept before it, all calls that are decided with it, and the puts that were added. More may come or not. Every piece has so many calls or more, but for one at whose end the input is over
 pub record IsJudgedLast (scope : Scope) (window least : ℕ) (unended : Bool) (known left : Option (List ℕ)) (progress : Progress) (judged : Text) (waiting : List Call) (waiting_lines : List ℕ) (latest : ℕ) (forgotten : Forgotten) (from_start : Option ℕ) : Type 0 where
@@ -198,6 +192,28 @@ pub record IsJudgedLast (scope : Scope) (window least : ℕ) (unended : Bool) (k
   pub counted : AreCounted forgotten (decided_in (last ∷ earlier)) (judged_in last)
   pub added_before : forgotten.added ≡ puts_in earlier
 
+-- of some kind, 64 bits can't count the calls of all pieces and the hits that wait, with the puts that were added; or they can't count those puts
+pub record IsCountFull (scope : Scope) (window least : ℕ) (known : Option (List ℕ)) : Type 0 where
+  pub unended : Bool
+  pub left : Option (List ℕ)
+  pub progress : Progress
+  pub judged : Text
+  pub waiting : List Call
+  pub waiting_lines : List ℕ
+  pub latest : ℕ
+  pub forgotten : Forgotten
+  pub from_start : Option ℕ
+  pub is : IsJudgedLast scope window least unended known left progress judged waiting waiting_lines latest forgotten from_start
+  pub full : ((kind : CountedKind) × (2 ^ 64 ≤ kinds.calls_of kind (decided_in (is.last ∷ is.earlier) ++ waiting))) ⊎ (2 ^ 64 ≤ puts_in (is.last ∷ is.earlier))
+
+-- why a stream is not judged: its first bad line, or the first call that starts too early, whichever comes first; or too many calls; or the reader or memory refused something
+abbrev pub IsStreamFault : Scope → ℕ → ℕ → Option (List ℕ) → ReadTextFault → Type 0
+IsStreamFault scope window least known (Bad bad) =
+    IfSome known (λ bytes. IsBadLine scope window least bytes bad ⊎ ((bad.cause ≡ BeforeWindow) × IsBefore scope window least known bad.number))
+IsStreamFault scope window least known ReadFault = Unit {0}
+IsStreamFault scope window least known OutOfMemory = Unit {0}
+IsStreamFault scope window least known CountFull = IsCountFull scope window least known
+
 -- the input is over: what was judged is acceptable exactly if all calls that were read are, with the puts that were added
 pub record IsToldWhole (known left : Option (List ℕ)) (last : Piece) (earlier : List Piece) (told : Text) : Type 0 where
   pub stand : Acceptable told.calls ↔ Acceptable (calls_in (last ∷ earlier) ++ added_in (last ∷ earlier))
@@ -213,7 +229,11 @@ abbrev pub IsToldOf : Bool → ℕ → Bool → Bool → Option (List ℕ) → O
 IsToldOf true window accepted decided known left last earlier told = IsToldPast window accepted decided last earlier
 IsToldOf false window accepted decided known left last earlier told = IsToldWhole known left last earlier told
 
--- the calls of a text that is read as a stream are told, those that were judged with the last piece, by whether they were accepted and whether that was decided. Of each kind, all calls are those that are told and those that count as forgotten, with the hits that still wait
+-- for some hits of these calls it is not decided what they read, and for nothing else there is no certificate: no reason was found, and for some key no rule gives one
+abbrev pub HasUndecided : List Call → Type 0
+HasUndecided calls = (hits : List ℕ) × AreUndecided calls hits
+
+-- the calls of a text that is read as a stream are told, those that were judged with the last piece, by whether they were accepted and whether that was decided. Nothing is left open unless their hits leave it open. Of each kind, all calls are those that are told and those that count as forgotten, with the hits that still wait
 pub record IsStreamed (scope : Scope) (window least : ℕ) (known : Option (List ℕ)) (accepted decided : Bool) (told : Text) (extent : Extent) : Type 0 where
   pub unended : Bool
   pub left : Option (List ℕ)
@@ -226,6 +246,7 @@ pub record IsStreamed (scope : Scope) (window least : ℕ) (known : Option (List
   pub told_is : IsToldOf unended window accepted decided known left is.last is.earlier told
   pub gone : Forgotten
   pub gone_is : extent.forgotten ≡ Some gone
+  pub undecided : decided ≡ false → HasUndecided told.calls
   pub counted : AreCounted gone (decided_in (is.last ∷ is.earlier) ++ waiting) told.calls
   pub added : gone.added ≡ puts_in is.earlier
   pub skipped : IsCounted scope.reading.skip_bad progress.skipped extent.skipped
@@ -282,6 +303,25 @@ pub record IsGrown (forgotten new : Forgotten) (before after : KindCounts) (from
   pub hits : before.hits + forgotten.hits ≡ after.hits + new.hits
   pub misses : before.misses + forgotten.misses ≡ after.misses + new.misses
   pub added : new.added ≡ forgotten.added + unwrap_or from_start 0
+
+-- of no kind there are more calls than of other ones
+pub record AreFewer (calls others : KindCounts) : Type 0 where
+  pub puts : calls.puts ≤ others.puts
+  pub removals : calls.removals ≤ others.removals
+  pub hits : calls.hits ≤ others.hits
+  pub misses : calls.misses ≤ others.misses
+
+-- how many calls of a kind there are, by these counts
+abbrev pub count_of : CountedKind → KindCounts → ℕ
+count_of Put counts = counts.puts
+count_of Removal counts = counts.removals
+count_of Hit counts = counts.hits
+count_of Miss counts = counts.misses
+
+-- of some kind, 64 bits can't count these calls and those that were forgotten; or they can't count the puts that were added, with so many more
+abbrev pub IsOver : Forgotten → KindCounts → Option ℕ → Type 0
+IsOver forgotten counts from_start =
+    ((kind : CountedKind) × (2 ^ 64 ≤ count_of kind counts + forgotten_of kind forgotten)) ⊎ (2 ^ 64 ≤ forgotten.added + unwrap_or from_start 0)
 
 -- the fewest calls of a piece of a text that is read as a stream, but for the last piece
 abbrev pub least_piece : ℕ

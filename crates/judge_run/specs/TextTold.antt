@@ -14,6 +14,7 @@ use Rattle.history_picture.specs.Names.{names_of}
 use Rattle.history_picture.specs.Reasons.{reason_of}
 use Rattle.history_text.specs.declared.bad_line.BadLine as bad_lines
 use Rattle.history_text.specs.Causes.{bad_line_text, cause_text}
+use Rattle.history_text.specs.declared.read_text_fault.ReadTextFault.TheVariants as reading
 use Rattle.history_text.specs.declared.read_text_fault.ReadTextFault.TheVariants.{Bad}
 use Rattle.history_text.specs.Text.{Text, text_by}
 use Rattle.judge_run.specs.CallObjects.{with_calls}
@@ -36,7 +37,7 @@ use Rattle.judge_run.specs.declared.rejection.Rejection.{Rejection}
 use Rattle.judge_run.specs.declared.scope.Scope.{Scope}
 use Rattle.judge_run.specs.declared.told_fault.ToldFault.{ToldFault}
 use Rattle.judge_run.specs.declared.tell_fault.TellFault.{TellFault}
-use Rattle.judge_run.specs.declared.tell_fault.TellFault.TheVariants.{OutOfMemory, ReadFault, WriteFault}
+use Rattle.judge_run.specs.declared.tell_fault.TellFault.TheVariants.{OutOfMemory, CountFull, ReadFault, WriteFault}
 use Rattle.judge_run.specs.Answers.{answered, begun, with_file}
 use Rattle.judge_run.specs.Told.{IsBehind}
 
@@ -174,8 +175,16 @@ pub record BeganText (form : Form) (scope : Scope) (known : Option (List ℕ)) (
   pub is : IsTextTold form scope known detail outcome told
   pub began : Begun old new (with_file file told)
 
--- if a text was not reported, or not whole, nothing was written, or a front
+-- if a text was not reported, or not whole, nothing was written, or a front. That its calls can't be counted is told only if they can't
 abbrev pub IsTextUntold : Form → Scope → Option (List ℕ) → Detail → Option (List ℕ) → Option (List ℕ) → Option (List ℕ) → TellFault → Type 0
 IsTextUntold form scope known detail file old new OutOfMemory = Keeps old new
+IsTextUntold form scope known detail file old new CountFull = Keeps old new × IsFaultBy scope.window scope known reading.CountFull
 IsTextUntold form scope known detail file old new ReadFault = Keeps old new
 IsTextUntold form scope known detail file old new WriteFault = BeganText form scope known detail file old new
+
+-- these bytes were not written, or not whole: nothing was, or a front
+abbrev pub IsUnwritten : List ℕ → Option (List ℕ) → Option (List ℕ) → TellFault → Type 0
+IsUnwritten bytes old new OutOfMemory = Keeps old new
+IsUnwritten bytes old new CountFull = ⊥
+IsUnwritten bytes old new ReadFault = ⊥
+IsUnwritten bytes old new WriteFault = Begun old new bytes

@@ -22,7 +22,7 @@ use Rattle.judge_run.specs.declared.outcome.Outcome.{Outcome}
 use Rattle.judge_run.specs.declared.outcome.Outcome.TheVariants.{Accepted, Rejected, Undecided, BadLine, BadTrace}
 use Rattle.judge_run.specs.declared.rejection.Rejection.{Rejection}
 use Rattle.judge_run.specs.declared.tell_fault.TellFault.{TellFault}
-use Rattle.judge_run.specs.declared.tell_fault.TellFault.TheVariants.{OutOfMemory, ReadFault, WriteFault}
+use Rattle.judge_run.specs.declared.tell_fault.TellFault.TheVariants.{OutOfMemory, CountFull, ReadFault, WriteFault}
 use Rattle.judge_run.specs.Answers.{answered, begun}
 use Rattle.judge_run.specs.Told.{IsBehind}
 use Rattle.judge_run.specs.TraceRows.{AreRowsOn, bad_trace_rows, check_rows}
@@ -117,5 +117,6 @@ pub record BeganTrace (form : Form) (known left : Option (List ℕ)) (explain : 
 -- if a trace was not reported, or not whole, nothing was written, or a front; a failed read is reported as a bad trace
 abbrev pub IsTraceUntold : Form → Option (List ℕ) → Option (List ℕ) → Bool → Option (List ℕ) → Option (List ℕ) → TellFault → Type 0
 IsTraceUntold form known left explain old new OutOfMemory = Keeps old new
+IsTraceUntold form known left explain old new CountFull = ⊥
 IsTraceUntold form known left explain old new ReadFault = ⊥
 IsTraceUntold form known left explain old new WriteFault = BeganTrace form known left explain old new

@@ -77,7 +77,7 @@ fn tell_call_at(
     form: Form,
     text: &mut String,
     history: &History,
-    position: u32,
+    position: u64,
 ) -> Result<(), AllocError>
     ensures { OnOk result (string_bytes text.new
         ≡ with_rows form (string_bytes text.old) (call_rows_of (slice_get history.now position))) }
@@ -108,9 +108,9 @@ fn tell_line_at(
     alloc: Global,
     form: Form,
     text: &mut String,
-    lines: &[u32],
+    lines: &[u64],
     recorded: usize,
-    position: u32,
+    position: u64,
 ) -> Result<(), AllocError>
     ensures { OnOk result (string_bytes text.new
         ≡ with_rows form (string_bytes text.old)
@@ -118,7 +118,7 @@ fn tell_line_at(
 {
     let name = line_name((position as usize) < recorded);
     match lines.get(position as usize) {
-        Some(line) => form.tell(alloc, text, name, Figure::Count(u64::from(*line))),
+        Some(line) => form.tell(alloc, text, name, Figure::Count(*line)),
         None => Ok(()),
     }
 }
@@ -127,9 +127,9 @@ fn tell_line_at(
 fn call_object(
     alloc: Global,
     history: &History,
-    lines: &[u32],
+    lines: &[u64],
     recorded: usize,
-    position: u32,
+    position: u64,
 ) -> Result<String, AllocError>
     ensures { IfOk result (λ text. string_bytes text
         ≡ call_object history.now lines.now recorded position) }
@@ -145,9 +145,9 @@ fn call_object(
 fn call_objects(
     alloc: Global,
     history: &History,
-    lines: &[u32],
+    lines: &[u64],
     recorded: usize,
-    positions: &[u32],
+    positions: &[u64],
 ) -> Result<Vec<String>, AllocError>
     ensures { IfOk result (λ objects. map string_bytes objects.items
         ≡ map (call_object history.now lines.now recorded) positions.now) }
@@ -167,7 +167,7 @@ fn tell_calls(
     alloc: Global,
     text: &mut String,
     history: &History,
-    lines: &[u32],
+    lines: &[u64],
     recorded: usize,
     witness: &Witness,
 ) -> Result<(), AllocError>
@@ -188,7 +188,7 @@ pub(crate) fn with_calls(
     form: Form,
     begun: String,
     history: &History,
-    lines: &[u32],
+    lines: &[u64],
     recorded: usize,
     witness: &Witness,
 ) -> Result<String, AllocError>

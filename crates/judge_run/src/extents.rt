@@ -23,10 +23,10 @@ fn forgotten_of(forgotten: Option<Forgotten>) -> usize
     ensures { result ≡ forgotten_of forgotten }
 {
     match forgotten {
-        Some(gone) => gone.puts as usize
-            + gone.removals as usize
-            + gone.hits as usize
-            + gone.misses as usize,
+        Some(gone) => (gone.puts as usize)
+            .saturating_add(gone.removals as usize)
+            .saturating_add(gone.hits as usize)
+            .saturating_add(gone.misses as usize),
         None => 0,
     }
 }

@@ -23,7 +23,7 @@ fn late_text(alloc: Global, late: Option<u64>) -> Result<String, AllocError>
 pub(crate) fn fault_text(
     alloc: Global,
     history: &History,
-    lines: &[u32],
+    lines: &[u64],
     recorded: usize,
     fault: &ToldFault,
 ) -> Result<String, AllocError>
@@ -42,7 +42,7 @@ pub(crate) fn push_faults(
     alloc: Global,
     text: &mut String,
     history: &History,
-    lines: &[u32],
+    lines: &[u64],
     recorded: usize,
     faults: &[ToldFault],
 ) -> Result<(), AllocError>

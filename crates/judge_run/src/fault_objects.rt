@@ -33,7 +33,7 @@ fn tell_fault(
     form: Form,
     text: &mut String,
     history: &History,
-    lines: &[u32],
+    lines: &[u64],
     recorded: usize,
     fault: &ToldFault,
 ) -> Result<(), AllocError>
@@ -51,7 +51,7 @@ fn tell_fault(
 fn fault_object(
     alloc: Global,
     history: &History,
-    lines: &[u32],
+    lines: &[u64],
     recorded: usize,
     fault: &ToldFault,
 ) -> Result<String, AllocError>
@@ -76,7 +76,7 @@ fn fault_object(
 fn fault_objects(
     alloc: Global,
     history: &History,
-    lines: &[u32],
+    lines: &[u64],
     recorded: usize,
     faults: &[ToldFault],
 ) -> Result<Vec<String>, AllocError>
@@ -98,7 +98,7 @@ pub(crate) fn tell_faults(
     alloc: Global,
     text: &mut String,
     history: &History,
-    lines: &[u32],
+    lines: &[u64],
     recorded: usize,
     faults: &[ToldFault],
 ) -> Result<(), AllocError>

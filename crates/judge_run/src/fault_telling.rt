@@ -16,7 +16,7 @@ fn tell_all(
     form: Form,
     text: &mut String,
     history: &History,
-    lines: &[u32],
+    lines: &[u64],
     recorded: usize,
     faults: &[ToldFault],
 ) -> Result<(), AllocError>

@@ -1,19 +1,19 @@
 // Calls that were judged and are no longer held.
 
-/// How many calls were judged and then forgotten, by kind. They stood on the lines before those of the calls that are held, of
-/// which a text has fewer than 2^32.
+/// How many calls were judged and then forgotten, by kind. They stood on lines before those of the calls that are held, or among
+/// them.
 #[derive(Clone, Copy, PartialEq, Eq)]
 pub struct Forgotten {
     /// How many puts.
-    pub puts: u32,
+    pub puts: u64,
     /// How many removals.
-    pub removals: u32,
+    pub removals: u64,
     /// How many hits.
-    pub hits: u32,
+    pub hits: u64,
     /// How many misses.
-    pub misses: u32,
+    pub misses: u64,
     /// How many puts were added with earlier pieces, whether they are held or not. `puts` has those that were forgotten.
-    pub added: u32,
+    pub added: u64,
 }
 
 impl Forgotten {

@@ -12,10 +12,10 @@ use std::alloc::{AllocError, Global};
 /// recorded; ascending and each once.
 pub(crate) fn start_lines(
     alloc: Global,
-    lines: &[u32],
+    lines: &[u64],
     recorded: usize,
     witness: &Witness,
-) -> Result<Vec<u32>, AllocError>
+) -> Result<Vec<u64>, AllocError>
     ensures { IfOk result (λ told. told.items ≡ start_lines lines.now recorded witness.now) }
 {
     let positions = positions_of(alloc, witness)?;
@@ -53,14 +53,14 @@ fn add_if_added(added: &mut Vec<u32>, recorded: usize, position: u32) -> Result<
 
 /// What the line of a fault says of one of these lines.
 #[tactic(auto, unfolding(crate::specs::FromStart::start_words))]
-fn start_words(alloc: Global, line: u32) -> Result<String, AllocError>
+fn start_words(alloc: Global, line: u64) -> Result<String, AllocError>
     ensures { IfOk result (λ text. string_bytes text ≡ start_words line) }
 {
     format!(in alloc; ", a value was there from the start, read in line {line}")
 }
 
 /// What the line of a fault says of these lines.
-pub(crate) fn start_text(alloc: Global, lines: &[u32]) -> Result<String, AllocError>
+pub(crate) fn start_text(alloc: Global, lines: &[u64]) -> Result<String, AllocError>
     ensures { IfOk result (λ text. string_bytes text ≡ start_text lines.now) }
 {
     let mut text = String::new(alloc);
@@ -73,7 +73,7 @@ pub(crate) fn start_text(alloc: Global, lines: &[u32]) -> Result<String, AllocEr
 
 /// What is said of one of these lines after an explanation.
 #[tactic(auto, unfolding(crate::specs::FromStart::start_sentence))]
-fn start_sentence(alloc: Global, line: u32) -> Result<String, AllocError>
+fn start_sentence(alloc: Global, line: u64) -> Result<String, AllocError>
     ensures { IfOk result (λ text. string_bytes text ≡ start_sentence line) }
 {
     format!(in alloc;
@@ -82,7 +82,7 @@ fn start_sentence(alloc: Global, line: u32) -> Result<String, AllocError>
 }
 
 /// What is said of these lines after an explanation.
-pub(crate) fn start_why(alloc: Global, lines: &[u32]) -> Result<String, AllocError>
+pub(crate) fn start_why(alloc: Global, lines: &[u64]) -> Result<String, AllocError>
     ensures { IfOk result (λ text. string_bytes text ≡ start_why lines.now) }
 {
     let mut text = String::new(alloc);
@@ -98,7 +98,7 @@ pub(crate) fn tell_start(
     alloc: Global,
     form: Form,
     text: &mut String,
-    lines: &[u32],
+    lines: &[u64],
 ) -> Result<(), AllocError>
     ensures { OnOk result (string_bytes text.new
         ≡ with_rows form (string_bytes text.old) (start_rows lines.now)) }

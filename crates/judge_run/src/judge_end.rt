@@ -20,6 +20,8 @@ pub enum JudgeEnd {
     Undecided,
     /// Memory was refused.
     OutOfMemory,
+    /// The calls of a stream are more than can be counted.
+    CountFull,
     /// A file, the input or the output failed.
     FileFault,
 }
@@ -61,6 +63,7 @@ impl JudgeEnd {
     {
         match fault {
             TellFault::OutOfMemory => JudgeEnd::OutOfMemory,
+            TellFault::CountFull => JudgeEnd::CountFull,
             TellFault::ReadFault | TellFault::WriteFault => JudgeEnd::FileFault,
         }
     }
@@ -73,7 +76,7 @@ impl JudgeEnd {
             JudgeEnd::Done => 0,
             JudgeEnd::Rejected => 1,
             JudgeEnd::BadInput | JudgeEnd::TooFew => 2,
-            JudgeEnd::OutOfMemory | JudgeEnd::FileFault => 3,
+            JudgeEnd::OutOfMemory | JudgeEnd::CountFull | JudgeEnd::FileFault => 3,
             JudgeEnd::Undecided => 4,
         }
     }

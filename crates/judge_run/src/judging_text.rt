@@ -1,9 +1,7 @@
 // Judging the history that a text spells.
-ghost use Rattle.std.specs.Prelude.{◌≡◌, ◌≢◌, None, IfOk, IfErr, IfSome, OnOk, length};
-ghost use Rattle.std.specs.Io.KnownBytes.{IsAtEnd};
-ghost use Rattle.history_text.specs.Outcome.{IsFaultOf, Left};
+ghost use Rattle.std.specs.Prelude.{◌≡◌, None, IfOk, IfErr, length};
 ghost use Rattle.history_text.specs.Text.{text_by};
-ghost use Rattle.judge_run.specs.Scopes.{IsCounted, IsJudged, IsWarmedIf, text_scoped};
+ghost use Rattle.judge_run.specs.Scopes.{IsCounted, IsWarmedIf, text_scoped};
 ghost use Rattle.judge_run.specs.Streams.{IsEndedBy, IsFaultBy, IsJudgedBy, IsLeftBy, IsVerdict, was_accepted, was_decided};
 ghost use Rattle.certificate_finder.specs.Finding.{IfRejected, IsFound};
 ghost use Rattle.judge_run.specs.Listing.{IsListed};
@@ -51,8 +49,11 @@ pub fn judge_text<S: BuildHasher + Copy + Drop, R: Read>(
         (R.remaining reader.old) (R.remaining reader.new)) }
 {
     match scope.window {
-        None => match judge_whole(alloc, hash_builder, scope, reader) {
-            Ok(judged) => Ok(judged),
+        None => match read_text(alloc, hash_builder, scope.reading, reader) {
+            Ok(read) => match judge_read(alloc, hash_builder, scope, read) {
+                Ok(judged) => Ok(judged),
+                Err(AllocError) => Err(ReadTextFault::OutOfMemory),
+            },
             Err(fault) => Err(fault),
         },
         Some(window) => {
@@ -64,30 +65,24 @@ pub fn judge_text<S: BuildHasher + Copy + Drop, R: Read>(
     }
 }
 
-/// The same of a text that is read whole.
-fn judge_whole<S: BuildHasher + Copy + Drop, R: Read>(
+/// Judges what was read of a text, which is all of it.
+fn judge_read<S: BuildHasher + Copy + Drop>(
     alloc: Global,
     hash_builder: S,
     scope: Scope,
-    reader: &mut R,
-) -> Result<JudgedText<S>, ReadTextFault>
-    ensures text { IfOk result (λ judged. IsJudged scope (R.remaining reader.old)
-        (text_by judged.text.history judged.text.lines.items judged.text.callers) judged.extent) }
-    ensures found { IfOk result (λ judged. IsFound judged.text.history judged.found) }
-    ensures faults { IfOk result (λ judged. IfRejected judged.found
-        (λ _. IsListed judged.text.history judged.faults)) }
-    ensures as_many { IfOk result (λ judged.
-        length judged.text.lines.items ≡ length judged.text.history) }
-    ensures end { OnOk result (IsAtEnd (R.remaining reader.new)) }
-    ensures fault { IfErr result (λ fault. IfSome (R.remaining reader.old) (λ bytes.
-        IsFaultOf scope.reading bytes fault)) }
-    ensures left { IfErr result (λ fault. fault ≢ ReadTextFault.OutOfMemory
-        → Left scope.reading (R.remaining reader.old) (R.remaining reader.new) fault) }
+    read: ReadText<S>,
+) -> Result<JudgedText<S>, AllocError>
+    requires { length read.text.lines.items ≡ length read.text.history }
+    ensures warmed { IfOk result (λ judged. IsWarmedIf scope.warm
+        (text_scoped scope (text_by read.text.history read.text.lines.items read.text.callers))
+        (text_by judged.text.history judged.text.lines.items judged.text.callers)
+        judged.extent.from_start) }
+    ensures skipped { IfOk result (λ judged.
+        IsCounted scope.reading.skip_bad read.skipped judged.extent.skipped) }
+    ensures held { IfOk result (λ judged. judged.extent.forgotten ≡ None) }
+    ensures verdict { IfOk result (λ judged. IsVerdict judged.text.history judged.text.lines.items
+        judged.found judged.faults) }
 {
-    let read = match read_text(alloc, hash_builder, scope.reading, reader) {
-        Ok(read) => read,
-        Err(fault) => return Err(fault),
-    };
     let ReadText { text, skipped } = read;
     let mut text = text;
     match judge_calls(alloc, hash_builder, scope, &mut text, skipped) {
@@ -97,11 +92,11 @@ fn judge_whole<S: BuildHasher + Copy + Drop, R: Read>(
             found: end.found,
             faults: end.faults,
         }),
-        Err(AllocError) => Err(ReadTextFault::OutOfMemory),
+        Err(refused) => Err(refused),
     }
 }
 
-/// Judges the calls of a text that was read whole, and of which so many bad lines were passed over.
+/// The same of the calls of a text, of which so many bad lines were passed over.
 fn judge_calls<S: BuildHasher + Copy + Drop>(
     alloc: Global,
     hash_builder: S,

@@ -1,16 +1,18 @@
 // Judging the history of a text, and telling its verdict.
-ghost use Rattle.std.specs.Prelude.{◌≡◌, ◌≢◌, None, IfOk, IfErr, length, option_map, string_bytes};
+ghost use Rattle.std.specs.Prelude.{◌≡◌, None, IfOk, IfErr, OnOk, length, option_map, string_bytes};
+ghost use Rattle.std.specs.Io.KnownBytes.{Appends};
 ghost use Rattle.certificate_finder.specs.Finding.{IfRejected, IsFound};
 ghost use Rattle.figures.specs.Figures.{ended};
 ghost use Rattle.history_picture.specs.Names.{names_of};
 ghost use Rattle.history_picture.specs.Reasons.{reason_of};
 ghost use Rattle.history_text.specs.Text.{text_by};
 ghost use Rattle.history_text.specs.Writing.{named};
+ghost use Rattle.judge_run.specs.Answers.{with_file};
 ghost use Rattle.judge_run.specs.FaultsTold.{listed, more_text};
 ghost use Rattle.judge_run.specs.FromStart.{start_lines};
 ghost use Rattle.judge_run.specs.Listing.{IsListed};
 ghost use Rattle.judge_run.specs.Streams.{was_accepted, was_decided};
-ghost use Rattle.judge_run.specs.TextTold.{IsHistoryTold, IsTextTold, IsTextUntold, ToldText, acceptance_of, bad_answer, told_accepted, told_decided};
+ghost use Rattle.judge_run.specs.TextTold.{IsHistoryTold, IsTextUntold, IsUnwritten, ToldText, acceptance_of, bad_answer, told_accepted, told_decided};
 ghost use Rattle.judge_run.specs.Paged.{IsPagedIf, page_if};
 ghost use Rattle.judge_run.specs.Told.{IsBehind};
 
@@ -31,8 +33,8 @@ use crate::outcome::Outcome;
 use crate::paged_outcome::PagedOutcome;
 use crate::paged_report::PagedReport;
 use crate::paging::page_if;
+use crate::question::Question;
 use crate::rejection::Rejection;
-use crate::scope::Scope;
 use crate::tell_fault::TellFault;
 use crate::text_answers::{bad_answer, front_of};
 use certificate_finder::{Found, Witness};
@@ -44,35 +46,23 @@ use std::hash::BuildHasher;
 use std::io::{Read, Write};
 use trace_file::{Certificate, History, Trace, Unwritten, write_whole};
 
-/// Judges the history that a text spells in this scope, and tells its verdict in this form. If the history is rejected and that is wanted, it
+/// Judges the history that a text spells, and tells its verdict, as it is asked. If the history is rejected and that is wanted, it
 /// tells all its faults after the verdict, and then why it is rejected. If a file is named, the form is an object, and its first member is that name. It flushes nothing. The tables hash by `hash_builder`. Whoever wrote the text should not know its seed.
 ///
-/// Neither a failed read nor a failed write is tried again. If memory or the reader is the fault, nothing was written.
+/// Neither a failed read nor a failed write is tried again. If the writer is not the fault, nothing was written.
 pub fn answer_judge<S: BuildHasher + Copy + Drop, R: Read, W: Write>(
     alloc: Global,
     hash_builder: S,
-    form: Form,
-    scope: Scope,
-    detail: Detail,
-    file: Option<&str>,
+    asked: Question<'_>,
     reader: &mut R,
     writer: &mut W,
 ) -> Result<Outcome, TellFault>
-    ensures ok { IfOk result (λ outcome. ToldText form scope (R.remaining reader.old) detail (named file.entry) outcome
-        (W.contents writer.old) (W.contents writer.new)) }
-    ensures err { IfErr result (λ fault. IsTextUntold form scope (R.remaining reader.old) detail (named file.entry)
-        (W.contents writer.old) (W.contents writer.new) fault) }
+    ensures ok { IfOk result (λ outcome. ToldText asked.entry.form asked.entry.scope (R.remaining reader.old)
+        asked.entry.detail (named asked.entry.file) outcome (W.contents writer.old) (W.contents writer.new)) }
+    ensures err { IfErr result (IsTextUntold asked.entry.form asked.entry.scope (R.remaining reader.old)
+        asked.entry.detail (named asked.entry.file) (W.contents writer.old) (W.contents writer.new)) }
 {
-    match answer_with_page(
-        alloc,
-        hash_builder,
-        form,
-        scope,
-        detail,
-        file,
-        reader,
-        writer,
-    ) {
+    match answer_with_page(alloc, hash_builder, asked, reader, writer) {
         Ok(answer) => Ok(answer.outcome),
         Err(fault) => Err(fault),
     }
@@ -82,84 +72,69 @@ pub fn answer_judge<S: BuildHasher + Copy + Drop, R: Read, W: Write>(
 pub fn answer_with_page<S: BuildHasher + Copy + Drop, R: Read, W: Write>(
     alloc: Global,
     hash_builder: S,
-    form: Form,
-    scope: Scope,
-    detail: Detail,
-    file: Option<&str>,
+    asked: Question<'_>,
     reader: &mut R,
     writer: &mut W,
 ) -> Result<PagedOutcome, TellFault>
-    ensures ok { IfOk result (λ answer. ToldText form scope (R.remaining reader.old) detail (named file.entry) answer.outcome
-        (W.contents writer.old) (W.contents writer.new)) }
-    ensures page { IfOk result (λ answer. IsPagedIf scope (R.remaining reader.old) detail.page
+    ensures ok { IfOk result (λ answer. ToldText asked.entry.form asked.entry.scope (R.remaining reader.old)
+        asked.entry.detail (named asked.entry.file) answer.outcome (W.contents writer.old) (W.contents writer.new)) }
+    ensures page { IfOk result (λ answer. IsPagedIf asked.entry.scope (R.remaining reader.old) asked.entry.detail.page
         answer.outcome (option_map (λ bytes. bytes.items) answer.page)) }
-    ensures err { IfErr result (λ fault. IsTextUntold form scope (R.remaining reader.old) detail (named file.entry)
-        (W.contents writer.old) (W.contents writer.new) fault) }
+    ensures err { IfErr result (IsTextUntold asked.entry.form asked.entry.scope (R.remaining reader.old)
+        asked.entry.detail (named asked.entry.file) (W.contents writer.old) (W.contents writer.new)) }
 {
-    let told = match told_text(alloc, hash_builder, form, scope, detail, reader) {
-        Ok(told) => told,
-        Err(fault) => return Err(fault),
-    };
-    let Some(name) = file else {
-        return match write_whole(writer, told.text.as_bytes()) {
-            Ok(()) => Ok(PagedOutcome {
-                outcome: told.outcome,
-                page: told.page,
-            }),
-            Err(Unwritten) => Err(TellFault::WriteFault),
-        };
-    };
-    let Ok(bytes) = named_object(alloc, name, told.text.as_bytes()) else {
-        return Err(TellFault::OutOfMemory);
-    };
-    match write_whole(writer, &bytes) {
-        Ok(()) => Ok(PagedOutcome {
-            outcome: told.outcome,
-            page: told.page,
-        }),
-        Err(Unwritten) => Err(TellFault::WriteFault),
-    }
-}
-
-/// The report on a text, and its page, if it is wanted.
-fn told_text<S: BuildHasher + Copy + Drop, R: Read>(
-    alloc: Global,
-    hash_builder: S,
-    form: Form,
-    scope: Scope,
-    detail: Detail,
-    reader: &mut R,
-) -> Result<PagedReport, TellFault>
-    ensures ok { IfOk result (λ told.
-        IsTextTold form scope (R.remaining reader.old) detail told.outcome (string_bytes told.text)) }
-    ensures page { IfOk result (λ told. IsPagedIf scope (R.remaining reader.old) detail.page
-        told.outcome (option_map (λ bytes. bytes.items) told.page)) }
-    ensures err { IfErr result (λ fault. fault ≢ TellFault.WriteFault) }
-{
-    match judge_text(alloc, hash_builder, scope, reader) {
-        Ok(judged) => match told_with_page(alloc, form, judged, detail) {
-            Ok(told) => Ok(told),
+    match judge_text(alloc, hash_builder, asked.scope, reader) {
+        Ok(judged) => match told_with_page(alloc, asked.form, judged, asked.detail) {
+            Ok(told) => match write_report(alloc, told, asked.file, writer) {
+                Ok(answer) => Ok(answer),
+                Err(fault) => Err(fault),
+            },
             Err(AllocError) => Err(TellFault::OutOfMemory),
         },
-        Err(ReadTextFault::Bad(bad)) => match told_bad_line(alloc, form, bad) {
-            Ok(told) => Ok(unpaged(told)),
+        Err(ReadTextFault::Bad(bad)) => match told_bad_line(alloc, asked.form, bad) {
+            Ok(told) => match write_report(alloc, told, asked.file, writer) {
+                Ok(answer) => Ok(answer),
+                Err(fault) => Err(fault),
+            },
             Err(AllocError) => Err(TellFault::OutOfMemory),
         },
         Err(ReadTextFault::ReadFault) => Err(TellFault::ReadFault),
         Err(ReadTextFault::OutOfMemory) => Err(TellFault::OutOfMemory),
+        Err(ReadTextFault::CountFull) => Err(TellFault::CountFull),
     }
 }
 
-/// A report without a page.
-fn unpaged(told: JudgeReport) -> PagedReport
-    ensures text { string_bytes result.text ≡ string_bytes told.text }
-    ensures outcome { result.outcome ≡ told.outcome }
-    ensures page { result.page ≡ None }
+/// Writes a report, after the name of the file if one is named, and answers its outcome and its page.
+fn write_report<W: Write>(
+    alloc: Global,
+    told: PagedReport,
+    file: Option<&str>,
+    writer: &mut W,
+) -> Result<PagedOutcome, TellFault>
+    ensures outcome { IfOk result (λ answer. answer.outcome ≡ told.outcome) }
+    ensures page { IfOk result (λ answer. answer.page ≡ told.page) }
+    ensures wrote { OnOk result (Appends (W.contents writer.old) (W.contents writer.new)
+        (with_file (named file.entry) (string_bytes told.text))) }
+    ensures err { IfErr result (IsUnwritten (with_file (named file.entry) (string_bytes told.text))
+        (W.contents writer.old) (W.contents writer.new)) }
 {
-    PagedReport {
-        text: told.text,
-        outcome: told.outcome,
-        page: None,
+    let PagedReport {
+        text,
+        outcome,
+        page,
+    } = told;
+    let Some(name) = file else {
+        return match write_whole(writer, text.as_bytes()) {
+            Ok(()) => Ok(PagedOutcome { outcome, page }),
+            Err(Unwritten) => Err(TellFault::WriteFault),
+        };
+    };
+    let Ok(bytes) = named_object(alloc, name, text.as_bytes()) else {
+        return Err(TellFault::OutOfMemory);
+    };
+    match write_whole(writer, &bytes) {
+        Ok(()) => Ok(PagedOutcome { outcome, page }),
+        Err(Unwritten) => Err(TellFault::WriteFault),
     }
 }
 
@@ -356,12 +331,17 @@ fn rejection_text(
     }
 }
 
-/// The report on a text with a bad line.
-fn told_bad_line(alloc: Global, form: Form, bad: BadLine) -> Result<JudgeReport, AllocError>
+/// The report on a text with a bad line, which has no page.
+fn told_bad_line(alloc: Global, form: Form, bad: BadLine) -> Result<PagedReport, AllocError>
     ensures bad { IfOk result (λ told. told.outcome ≡ Outcome.BadLine bad) }
     ensures text { IfOk result (λ told. string_bytes told.text ≡ bad_answer form bad) }
+    ensures page { IfOk result (λ told. told.page ≡ None) }
 {
     let text = bad_answer(alloc, form, bad)?;
     let outcome = Outcome::BadLine(bad);
-    Ok(JudgeReport { text, outcome })
+    Ok(PagedReport {
+        text,
+        outcome,
+        page: None,
+    })
 }

@@ -1,7 +1,7 @@
 // How many calls of each kind were forgotten.
-ghost use Rattle.std.specs.Prelude.{◌≡◌, ◌+◌, [], IfSome, None, unwrap_or};
+ghost use Rattle.std.specs.Prelude.{◌≡◌, ◌+◌, ◌≤◌, ◌^◌, [], IfSome, IfNone, None, unwrap_or};
 ghost use Rattle.judge_run.specs.Kinds.{counts_in};
-ghost use Rattle.judge_run.specs.Streams.{IsGrown};
+ghost use Rattle.judge_run.specs.Streams.{AreFewer, IsGrown, IsOver};
 
 use crate::forgotten::Forgotten;
 use crate::kinds::{CountedKind, calls_of};
@@ -28,35 +28,37 @@ pub(crate) fn counts_of(history: &History) -> KindCounts
     }
 }
 
-/// A number, and by how much another one became less, if it did not grow and 32 bits can hold the sum.
-fn more(count: u32, before: usize, after: usize) -> Option<u32>
-    ensures { IfSome result (λ sum. before + count ≡ after + sum) }
+/// A number, and by how much another one became less, if 64 bits can hold the sum.
+fn more(count: u64, before: usize, after: usize) -> Option<u64>
+    requires { after ≤ before }
+    ensures sum { IfSome result (λ sum. before + count ≡ after + sum) }
+    ensures none { IfNone result (2 ^ 64 ≤ before + count) }
 {
-    let gone = before.checked_sub(after)?;
-    let sum = (count as usize).checked_add(gone)?;
-    u32::try_from(sum).ok()
+    count.checked_add((before - after) as u64)
 }
 
-/// How many puts were added with these, if 32 bits can hold it.
-fn added_with(added: u32, from_start: Option<usize>) -> Option<u32>
-    ensures { IfSome result (λ sum. sum ≡ added + unwrap_or from_start 0) }
+/// How many puts were added with these, if 64 bits can hold it.
+fn added_with(added: u64, from_start: Option<usize>) -> Option<u64>
+    ensures sum { IfSome result (λ sum. sum ≡ added + unwrap_or from_start 0) }
+    ensures none { IfNone result (2 ^ 64 ≤ added + unwrap_or from_start 0) }
 {
-    let Some(values) = from_start else {
-        return Some(added);
-    };
-    let sum = (added as usize).checked_add(values)?;
-    u32::try_from(sum).ok()
+    match from_start {
+        Some(values) => added.checked_add(values as u64),
+        None => Some(added),
+    }
 }
 
-/// What was forgotten, with the calls that went, of those that were judged, and the puts that were added to them; if none of the counts
-/// grew, and 32 bits can hold each number.
+/// What was forgotten, with the calls that went, of those that were judged, and the puts that were added to them; if 64 bits can hold
+/// each number.
 pub(crate) fn grown(
     forgotten: Forgotten,
     before: &KindCounts,
     after: &KindCounts,
     from_start: Option<usize>,
 ) -> Option<Forgotten>
-    ensures { IfSome result (λ more. IsGrown forgotten more before.now after.now from_start) }
+    requires { AreFewer after.now before.now }
+    ensures grown { IfSome result (λ more. IsGrown forgotten more before.now after.now from_start) }
+    ensures none { IfNone result (IsOver forgotten before.now from_start) }
 {
     let puts = more(forgotten.puts, before.puts, after.puts)?;
     let removals = more(forgotten.removals, before.removals, after.removals)?;
@@ -72,9 +74,10 @@ pub(crate) fn grown(
     })
 }
 
-/// What was forgotten, with these calls too, which wait to be judged; if 32 bits can hold each number.
+/// What was forgotten, with these calls too, which wait to be judged; if 64 bits can hold each number.
 pub(crate) fn with_waiting(forgotten: Forgotten, waiting: &History) -> Option<Forgotten>
-    ensures { IfSome result (λ more. IsGrown forgotten more (counts_in waiting.now) (counts_in []) None) }
+    ensures grown { IfSome result (λ more. IsGrown forgotten more (counts_in waiting.now) (counts_in []) None) }
+    ensures none { IfNone result (IsOver forgotten (counts_in waiting.now) None) }
 {
     let none = KindCounts {
         puts: 0,

@@ -10,7 +10,7 @@ pub(crate) struct LinedCalls {
     /// The calls.
     pub(crate) history: History,
     /// The number of the line of each.
-    pub(crate) lines: Vec<u32>,
+    pub(crate) lines: Vec<u64>,
 }
 
 impl LinedCalls {

@@ -65,7 +65,7 @@ fn part<S: BuildHasher + Drop>(
 }
 
 /// The lines of the calls at these positions.
-fn lines_of(alloc: Global, lines: &[u32], positions: &[u32]) -> Result<Vec<u32>, AllocError>
+fn lines_of(alloc: Global, lines: &[u64], positions: &[u32]) -> Result<Vec<u64>, AllocError>
     ensures { IfOk result (λ all. all.items ≡ lines_at lines.now positions.now) }
 {
     let mut all = Vec::new(alloc);

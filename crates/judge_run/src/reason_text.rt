@@ -12,7 +12,7 @@ use trace_file::History;
 pub(crate) fn reason_text(
     alloc: Global,
     history: &History,
-    lines: &[u32],
+    lines: &[u64],
     witness: &Witness,
 ) -> Result<String, AllocError>
     ensures { IfOk result (λ text. string_bytes text ≡ reason_text history.now lines.now witness.now) }

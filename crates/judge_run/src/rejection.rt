@@ -16,11 +16,11 @@ pub struct Rejection {
     /// The calls.
     pub history: History,
     /// The line of each call, by its position; none if the history came as a trace.
-    pub lines: Vec<u32>,
+    pub lines: Vec<u64>,
     /// The callers' names, by their numbers; none if the history came as a trace.
     pub callers: Vec<Vec<u8>>,
     /// The lines of the hits that read first what was there from the start, of the values that the reason speaks of.
-    pub from_start: Vec<u32>,
+    pub from_start: Vec<u64>,
     /// Why it is rejected.
     pub reason: Reason,
 }

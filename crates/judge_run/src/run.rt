@@ -13,6 +13,7 @@ use crate::judging_texts::answer_with_page;
 use crate::notes::{note_answer, note_bad_trace, note_few};
 use crate::outcome::Outcome;
 use crate::paged_outcome::PagedOutcome;
+use crate::question::Question;
 use crate::requests::{CheckRequest, JudgeRequest, ShowRequest};
 use crate::saving::save;
 use crate::scope::Scope;
@@ -110,45 +111,9 @@ fn judge_file<R: AllocGlobal + Files + RandomSource, I: Read, O: Write, E: Write
         request.now.at_least (are_several request.now.others.items) file.now (I.remaining stdin.old) (I.remaining stdin.new)
         (O.contents out.old) (O.contents out.new) result }
 {
-    if !is_headed(request) {
-        return judge_at(rt, stdin, request, file, out, err);
+    if let Err(fault) = write_heading(rt.alloc(), is_headed(request), file, out) {
+        return untold(err, input_name(file), fault).status();
     }
-    match write_heading(rt.alloc(), file, out) {
-        Ok(()) => judge_at(rt, stdin, request, file, out, err),
-        Err(fault) => untold(err, input_name(file), fault).status(),
-    }
-}
-
-/// Writes the name of a file and a colon, on a line of their own.
-fn write_heading<O: Write>(alloc: Global, file: &FileName, out: &mut O) -> Result<(), TellFault>
-    ensures { OnOk result (IsHeaded true file.now (O.contents out.old) (O.contents out.new)) }
-{
-    let name = file.as_str();
-    let Ok(line) = format!(in alloc; "{name}:\n") else {
-        return Err(TellFault::OutOfMemory);
-    };
-    match write_whole(out, line.as_bytes()) {
-        Ok(()) => Ok(()),
-        Err(Unwritten) => Err(TellFault::WriteFault),
-    }
-}
-
-/// The same without the name.
-fn judge_at<R: AllocGlobal + Files + RandomSource, I: Read, O: Write, E: Write>(
-    rt: &R,
-    stdin: &mut I,
-    request: &JudgeRequest,
-    file: &FileName,
-    out: &mut O,
-    err: &mut E,
-) -> u8
-    ensures judged { IsJudgeRun (form_of request.now.json) request.now.scope request.now.detail
-        (name_in (form_of request.now.json) (are_several request.now.others.items) file.now) request.now.at_least (O.contents out.old) (O.contents out.new) result }
-    ensures standard_input { IsStandardInput file.now → IsJudgeRunOn
-        (form_of request.now.json) request.now.scope (I.remaining stdin.old) request.now.detail
-        (name_in (form_of request.now.json) (are_several request.now.others.items) file.now) request.now.at_least (O.contents out.old) (O.contents out.new) result }
-    ensures unread { ¬ IsStandardInput file.now → stdin.new ≡ stdin.old }
-{
     let seed = match RandomSeed::draw(rt) {
         Ok(seed) => seed,
         Err(error) => return without_random(err, &error).status(),
@@ -159,6 +124,28 @@ fn judge_at<R: AllocGlobal + Files + RandomSource, I: Read, O: Write, E: Write>(
     match fs::open(rt, file.as_str()) {
         Ok(mut reader) => judge_from(rt, seed, request, file, &mut reader, out, err),
         Err(error) => unopened(err, file, &error).status(),
+    }
+}
+
+/// Writes the name of a file and a colon, on a line of their own, if that is wanted.
+fn write_heading<O: Write>(
+    alloc: Global,
+    wanted: bool,
+    file: &FileName,
+    out: &mut O,
+) -> Result<(), TellFault>
+    ensures { OnOk result (IsHeaded wanted file.now (O.contents out.old) (O.contents out.new)) }
+{
+    if !wanted {
+        return Ok(());
+    }
+    let name = file.as_str();
+    let Ok(line) = format!(in alloc; "{name}:\n") else {
+        return Err(TellFault::OutOfMemory);
+    };
+    match write_whole(out, line.as_bytes()) {
+        Ok(()) => Ok(()),
+        Err(Unwritten) => Err(TellFault::WriteFault),
     }
 }
 
@@ -177,17 +164,13 @@ fn judge_from<R: AllocGlobal + Files, I: Read, O: Write, E: Write>(
         (name_in (form_of request.now.json) (are_several request.now.others.items) file.now)
         request.now.at_least (O.contents out.old) (O.contents out.new) result }
 {
-    let form = Form::of(request.json);
-    match answer_with_page(
-        rt.alloc(),
-        seed,
-        form,
-        request.scope,
-        request.detail,
-        name_in(request, file),
-        reader,
-        out,
-    ) {
+    let asked = Question {
+        form: Form::of(request.json),
+        scope: request.scope,
+        detail: request.detail,
+        file: name_in(request, file),
+    };
+    match answer_with_page(rt.alloc(), seed, asked, reader, out) {
         Ok(answer) => judged(rt, request, file, &answer, err).status(),
         Err(fault) => untold(err, input_name(file), fault).status(),
     }

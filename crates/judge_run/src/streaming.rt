@@ -1,5 +1,5 @@
 // Judging a text piece by piece.
-ghost use Rattle.std.specs.Prelude.{◌≡◌, ◌-◌, ℕ, List, Option, IfErr, IfOk, IfSome, OnOk, length, not, true, false, Some};
+ghost use Rattle.std.specs.Prelude.{◌≡◌, ◌-◌, ◌<◌, ◌^◌, ℕ, List, Option, IfErr, IfOk, IfSome, OnOk, length, not, true, false, None, Some};
 ghost use Rattle.std.specs.Io.KnownBytes.{IsAtEnd};
 ghost use Rattle.certificate_finder.specs.Finding.{IfRejected, IsFound};
 ghost use Rattle.history_text.specs.Pieces.{Progress, left_of};
@@ -102,14 +102,13 @@ fn judge_pieces<S: BuildHasher + Copy + Drop, R: Read>(
     ensures whole { IfOk result (λ end. was_accepted end.found ≡ true → IsAtEnd (R.remaining reader.new)) }
     ensures fault { IfErr result (IsStreamFault rule.scope rule.window rule.least (R.remaining reader.old)) }
 {
-    for _ in 0..u64::MAX {
+    loop {
         match judge_next(alloc, hash_builder, rule, stream, lines, reader) {
             Ok(Some(end)) => return Ok(end),
             Ok(None) => {}
             Err(fault) => return Err(fault),
         }
     }
-    Err(ReadTextFault::OutOfMemory)
 }
 
 /// Reads the next piece, and judges it. If the stream goes on, it answers nothing.
@@ -128,6 +127,8 @@ fn judge_next<S: BuildHasher + Copy + Drop, R: Read>(
         → IsHeld rule known (left_of lines.old (R.remaining reader.old)) lines.old stream.old
         → IsPieceEnd rule known (left_of lines.new (R.remaining reader.new)) lines.new end stream.new) }
     ensures verdict { IfOk result (λ end. IfSome end (IsEndOf stream.new)) }
+    ensures more { IfOk result (λ end. end ≡ None → lines.old.number < lines.new.number) }
+    ensures few { lines.new.number < 2 ^ 64 }
     ensures whole { IfOk result (λ end. IfSome end (λ told.
         was_accepted told.found ≡ true → IsAtEnd (R.remaining reader.new))) }
     ensures fault { IfErr result (λ fault. (known : Option (List ℕ))
@@ -141,7 +142,7 @@ fn judge_next<S: BuildHasher + Copy + Drop, R: Read>(
     let skipped = counted(rule.scope.reading.skip_bad, lines.skipped());
     match judge_piece(alloc, hash_builder, rule, stream, over, skipped) {
         Ok(end) => Ok(end),
-        Err(AllocError) => Err(ReadTextFault::OutOfMemory),
+        Err(fault) => Err(fault),
     }
 }
 
@@ -154,7 +155,7 @@ fn judge_piece<S: BuildHasher + Copy + Drop>(
     stream: &mut Stream<S>,
     over: bool,
     skipped: Option<u64>,
-) -> Result<Option<StreamEnd>, AllocError>
+) -> Result<Option<StreamEnd>, ReadTextFault>
     requires kept { length stream.old.kept.lines.items ≡ length stream.old.kept.history }
     requires asked { length stream.old.text.lines.items ≡ length stream.old.text.history }
     ensures judged { IfOk result (λ end. (known left : Option (List ℕ)) (progress : Progress)
@@ -163,14 +164,18 @@ fn judge_piece<S: BuildHasher + Copy + Drop>(
         → IsCounted rule.scope.reading.skip_bad progress.skipped skipped
         → IsPieceEnd rule known left progress end stream.new) }
     ensures verdict { IfOk result (λ end. IfSome end (IsEndOf stream.new)) }
+    ensures more { IfOk result (λ end. end ≡ None → over ≡ false) }
     ensures whole { IfOk result (λ end. IfSome end (λ told. was_accepted told.found ≡ true → over ≡ true)) }
+    ensures fault { IfErr result (λ fault. (known left : Option (List ℕ)) (progress : Progress)
+        → IsPiece rule known left progress over stream.old
+        → IsStreamFault rule.scope rule.window rule.least known fault) }
 {
     let Ok(from_start) = warm_piece(alloc, hash_builder, rule, stream, over) else {
-        return Err(AllocError);
+        return Err(ReadTextFault::OutOfMemory);
     };
     match judge_warmed(alloc, hash_builder, stream, over, from_start, skipped) {
         Ok(end) => Ok(end),
-        Err(refused) => Err(refused),
+        Err(fault) => Err(fault),
     }
 }
 
@@ -213,7 +218,7 @@ fn judge_warmed<S: BuildHasher + Copy + Drop>(
     over: bool,
     from_start: Option<usize>,
     skipped: Option<u64>,
-) -> Result<Option<StreamEnd>, AllocError>
+) -> Result<Option<StreamEnd>, ReadTextFault>
     requires { length stream.old.text.lines.items ≡ length stream.old.text.history }
     ensures judged { IfOk result (λ end. (rule : PieceRule) (known left : Option (List ℕ)) (progress : Progress)
         → stream.old.bound ≡ stream.old.latest - rule.window
@@ -222,15 +227,19 @@ fn judge_warmed<S: BuildHasher + Copy + Drop>(
         → IsCounted rule.scope.reading.skip_bad progress.skipped skipped
         → IsPieceEnd rule known left progress end stream.new) }
     ensures verdict { IfOk result (λ end. IfSome end (IsEndOf stream.new)) }
+    ensures more { IfOk result (λ end. end ≡ None → over ≡ false) }
     ensures whole { IfOk result (λ end. IfSome end (λ told. was_accepted told.found ≡ true → over ≡ true)) }
+    ensures fault { IfErr result (λ fault. (rule : PieceRule) (known left : Option (List ℕ)) (progress : Progress)
+        → IsPieceJudged rule (not over) known left progress from_start stream.old
+        → IsStreamFault rule.scope rule.window rule.least known fault) }
 {
     let Ok(found) = find_with_hasher(alloc, hash_builder, &stream.text.history) else {
-        return Err(AllocError);
+        return Err(ReadTextFault::OutOfMemory);
     };
     if !over && is_accepted(&found) {
         return match go_on(alloc, hash_builder, stream, from_start) {
             Ok(()) => Ok(None),
-            Err(refused) => Err(refused),
+            Err(fault) => Err(fault),
         };
     }
     match end_with(
@@ -243,7 +252,7 @@ fn judge_warmed<S: BuildHasher + Copy + Drop>(
         found,
     ) {
         Ok(end) => Ok(Some(end)),
-        Err(refused) => Err(refused),
+        Err(fault) => Err(fault),
     }
 }
 
@@ -267,7 +276,7 @@ fn end_with<S: BuildHasher + Copy + Drop>(
     from_start: Option<usize>,
     skipped: Option<u64>,
     found: Found,
-) -> Result<StreamEnd, AllocError>
+) -> Result<StreamEnd, ReadTextFault>
     requires found { IsFound stream.now.text.history found }
     requires as_many { length stream.now.text.lines.items ≡ length stream.now.text.history }
     requires unaccepted { over ≡ false → was_accepted found ≡ false }
@@ -278,15 +287,18 @@ fn end_with<S: BuildHasher + Copy + Drop>(
         → IsPieceEnd rule known left progress (Some told) stream.now) }
     ensures found { IfOk result (λ told. told.found ≡ found) }
     ensures verdict { IfOk result (IsEndOf stream.now) }
+    ensures fault { IfErr result (λ fault. (rule : PieceRule) (known left : Option (List ℕ)) (progress : Progress)
+        → IsPieceJudged rule (not over) known left progress from_start stream.now
+        → IsStreamFault rule.scope rule.window rule.least known fault) }
 {
     pieces_stand();
     pieces_exclude();
     witness_excludes();
     let Ok(faults) = faults_of(alloc, hash_builder, &stream.text.history, &found) else {
-        return Err(AllocError);
+        return Err(ReadTextFault::OutOfMemory);
     };
     let Some(gone) = with_waiting(stream.forgotten, &stream.waiting.history) else {
-        return Err(AllocError);
+        return Err(ReadTextFault::CountFull);
     };
     let extent = Extent {
         from_start,
@@ -306,21 +318,24 @@ fn go_on<S: BuildHasher + Copy + Drop>(
     hash_builder: S,
     stream: &mut Stream<S>,
     from_start: Option<usize>,
-) -> Result<(), AllocError>
+) -> Result<(), ReadTextFault>
     requires { Acceptable stream.old.text.history }
-    ensures { OnOk result ((rule : PieceRule) (known left : Option (List ℕ)) (progress : Progress)
+    ensures held { OnOk result ((rule : PieceRule) (known left : Option (List ℕ)) (progress : Progress)
         → stream.old.bound ≡ stream.old.latest - rule.window
         → IsPieceJudged rule true known left progress from_start stream.old
         → IsHeld rule known left progress stream.new) }
+    ensures fault { IfErr result (λ fault. (rule : PieceRule) (known left : Option (List ℕ)) (progress : Progress)
+        → IsPieceJudged rule true known left progress from_start stream.old
+        → IsStreamFault rule.scope rule.window rule.least known fault) }
 {
     let first = first_start(&stream.waiting.history, stream.bound);
     let before = counts_of(&stream.text.history);
     let Ok(()) = forget(alloc, hash_builder, &mut stream.text, first) else {
-        return Err(AllocError);
+        return Err(ReadTextFault::OutOfMemory);
     };
     let after = counts_of(&stream.text.history);
     let Some(forgotten) = grown(stream.forgotten, &before, &after, from_start) else {
-        return Err(AllocError);
+        return Err(ReadTextFault::CountFull);
     };
     stream.forgotten = forgotten;
     stream.kept.history = replace(&mut stream.text.history, History::new(alloc));

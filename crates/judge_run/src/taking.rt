@@ -1,5 +1,5 @@
 // Reading a piece of a text.
-ghost use Rattle.std.specs.Prelude.{◌≡◌, ◌≤◌, ◌++◌, IfErr, IfOk, IfSome, List, ℕ, OnOk, Option, length, map, true};
+ghost use Rattle.std.specs.Prelude.{◌≡◌, ◌<◌, ◌≤◌, ◌++◌, IfErr, IfOk, IfSome, List, ℕ, OnOk, Option, false, length, map, true};
 ghost use Rattle.std.specs.Io.KnownBytes.{IsAtEnd};
 ghost use Rattle.clock_skew.specs.Widening.{widened};
 ghost use Rattle.history_text.specs.Pieces.{left_of};
@@ -36,6 +36,7 @@ pub(crate) fn take_piece<S: BuildHasher + Drop, R: Read>(
     ensures taken { IfOk result (λ over. (known : Option (List ℕ))
         → IsHeld rule known (left_of lines.old (R.remaining reader.old)) lines.old stream.old
         → IsPiece rule known (left_of lines.new (R.remaining reader.new)) lines.new over stream.new) }
+    ensures more { IfOk result (λ over. over ≡ false → lines.old.number < lines.new.number) }
     ensures end { IfOk result (λ over. over ≡ true → IsAtEnd (R.remaining reader.new)) }
     ensures over { IfOk result (λ over. over ≡ true
         → IfSome (left_of lines.old (R.remaining reader.old))
@@ -53,6 +54,7 @@ pub(crate) fn take_piece<S: BuildHasher + Drop, R: Read>(
         }
         Err(ReadTextFault::ReadFault) => return Err(ReadTextFault::ReadFault),
         Err(ReadTextFault::OutOfMemory) => return Err(ReadTextFault::OutOfMemory),
+        Err(ReadTextFault::CountFull) => return Err(ReadTextFault::CountFull),
     };
     let Ok(()) = widen(alloc, &mut stream.text.history, rule.scope.skew) else {
         return Err(ReadTextFault::OutOfMemory);
@@ -70,6 +72,7 @@ pub(crate) fn take_piece<S: BuildHasher + Drop, R: Read>(
 /// How many calls a piece has: so many, or as many as these if those are more, and at least one.
 fn most_of(least: usize, kept: &History, waiting: &History) -> usize
     ensures least { least ≤ result }
+    ensures some { 1 ≤ result }
     ensures size { result ≡ piece_size least kept.now waiting.now }
 {
     let held = kept.len().saturating_add(waiting.len());
@@ -98,11 +101,11 @@ fn first_fault<S: BuildHasher>(
 }
 
 /// The fault of a call on this line that starts too early.
-fn before_window(line: u32) -> ReadTextFault
+fn before_window(line: u64) -> ReadTextFault
     ensures { result ≡ ReadTextFault.Bad (record { number = line; cause = LineCause.BeforeWindow }) }
 {
     ReadTextFault::Bad(BadLine {
-        number: u64::from(line),
+        number: line,
         cause: LineCause::BeforeWindow,
     })
 }

@@ -11,6 +11,9 @@ pub enum TellFault {
     /// Memory was refused.
     #[error("out of memory")]
     OutOfMemory,
+    /// The calls of a stream are more than 64 bits can count.
+    #[error("there are more calls than can be counted")]
+    CountFull,
     /// The reader failed. A failed read is not tried again.
     #[error("the input was not read whole")]
     ReadFault,

@@ -65,9 +65,22 @@ pub(crate) fn untold<E: Write>(err: &mut E, name: &str, fault: TellFault) -> Jud
 {
     match fault {
         TellFault::OutOfMemory => out_of_memory(err, name),
+        TellFault::CountFull => uncounted(err, name),
         TellFault::ReadFault => unread(err, name),
         TellFault::WriteFault => unsaid(err),
     }
+}
+
+/// Tells that the calls of the input of this name are more than can be counted.
+fn uncounted<E: Write>(err: &mut E, name: &str) -> JudgeEnd
+    ensures { result ≡ JudgeEnd.CountFull }
+{
+    let _ = write!(
+        err,
+        "too many calls\n{name}: 2^64 calls of one kind or more can't be counted: judge what comes from here on as an input of its own\n"
+    );
+    let _ = err.flush();
+    JudgeEnd::CountFull
 }
 
 /// Tells that the input of this name was not read whole.

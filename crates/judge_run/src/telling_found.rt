@@ -17,7 +17,7 @@ use trace_file::History;
 fn rejected_text(
     alloc: Global,
     history: &History,
-    lines: &[u32],
+    lines: &[u64],
     extent: &Extent,
     witness: &Witness,
 ) -> Result<String, AllocError>

@@ -25,7 +25,7 @@ pub(crate) fn tell_reason(
     form: Form,
     text: &mut String,
     history: &History,
-    lines: &[u32],
+    lines: &[u64],
     recorded: usize,
     witness: &Witness,
 ) -> Result<(), AllocError>

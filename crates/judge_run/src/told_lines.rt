@@ -104,7 +104,7 @@ pub(crate) fn positions_of(alloc: Global, witness: &Witness) -> Result<Vec<u32>,
 }
 
 /// Puts a line at its place among ascending ones, unless it stands there.
-fn put_in(lines: &mut Vec<u32>, line: u32) -> Result<(), AllocError>
+fn put_in(lines: &mut Vec<u64>, line: u64) -> Result<(), AllocError>
     ensures { OnOk result (lines.new.items ≡ put_in lines.old.items line) }
 {
     for place in 0..lines.len() {
@@ -118,11 +118,14 @@ fn put_in(lines: &mut Vec<u32>, line: u32) -> Result<(), AllocError>
             };
         }
     }
-    add(lines, line)
+    match lines.push(line) {
+        Ok(()) => Ok(()),
+        Err(_) => Err(AllocError),
+    }
 }
 
 /// Puts the line of the call at a position at its place among others, if there is one.
-fn put_line(lines: &mut Vec<u32>, all: &[u32], position: u32) -> Result<(), AllocError>
+fn put_line(lines: &mut Vec<u64>, all: &[u64], position: u32) -> Result<(), AllocError>
     ensures { OnOk result (lines.new.items
         ≡ fold put_in lines.old.items (lines_at all.now (position ∷ []))) }
 {
@@ -137,9 +140,9 @@ fn put_line(lines: &mut Vec<u32>, all: &[u32], position: u32) -> Result<(), Allo
 /// The lines of the calls that a reason speaks of, ascending and each once.
 pub(crate) fn lines_of(
     alloc: Global,
-    lines: &[u32],
+    lines: &[u64],
     witness: &Witness,
-) -> Result<Vec<u32>, AllocError>
+) -> Result<Vec<u64>, AllocError>
     ensures { IfOk result (λ told.
         told.items ≡ ascending (lines_at lines.now (witness_positions witness.now))) }
 {
@@ -153,9 +156,9 @@ pub(crate) fn lines_of(
 /// The lines of the calls at these positions, ascending and each once.
 pub(crate) fn ascending_lines(
     alloc: Global,
-    lines: &[u32],
+    lines: &[u64],
     positions: &[u32],
-) -> Result<Vec<u32>, AllocError>
+) -> Result<Vec<u64>, AllocError>
     ensures { IfOk result (λ told. told.items ≡ ascending (lines_at lines.now positions.now)) }
 {
     let mut told = Vec::new(alloc);
@@ -169,13 +172,13 @@ pub(crate) fn ascending_lines(
 }
 
 /// The calls that a reason speaks of, in the order of the history and each once.
-pub(crate) fn told_positions(alloc: Global, witness: &Witness) -> Result<Vec<u32>, AllocError>
+pub(crate) fn told_positions(alloc: Global, witness: &Witness) -> Result<Vec<u64>, AllocError>
     ensures { IfOk result (λ told. told.items ≡ ascending (witness_positions witness.now)) }
 {
     let positions = positions_of(alloc, witness)?;
     let mut told = Vec::new(alloc);
     for position in &positions {
-        match put_in(&mut told, *position) {
+        match put_in(&mut told, u64::from(*position)) {
             Ok(()) => {}
             Err(refused) => return Err(refused),
         }
@@ -184,7 +187,7 @@ pub(crate) fn told_positions(alloc: Global, witness: &Witness) -> Result<Vec<u32
 }
 
 /// Numbers, each after a space.
-pub(crate) fn spaced(alloc: Global, numbers: &[u32]) -> Result<String, AllocError>
+pub(crate) fn spaced(alloc: Global, numbers: &[u64]) -> Result<String, AllocError>
     ensures { IfOk result (λ text. string_bytes text ≡ spaced numbers.now) }
 {
     let mut text = String::new(alloc);

@@ -59,7 +59,7 @@ fn warm<S: BuildHasher + Copy + Drop>(
 }
 
 /// Lines, and after them those of the calls at these positions.
-fn with_lines(alloc: Global, lines: &[u32], positions: &[u32]) -> Result<Vec<u32>, AllocError>
+fn with_lines(alloc: Global, lines: &[u64], positions: &[u32]) -> Result<Vec<u64>, AllocError>
     ensures { IfOk result (λ all. all.items ≡ lines.now ++ lines_at lines.now positions.now) }
 {
     let mut all = Vec::from_slice(alloc, lines)?;
@@ -73,7 +73,7 @@ fn with_lines(alloc: Global, lines: &[u32], positions: &[u32]) -> Result<Vec<u32
 }
 
 /// Appends the line of the call at a position, if there is one.
-pub(crate) fn add_line(all: &mut Vec<u32>, lines: &[u32], position: u32) -> Result<(), AllocError>
+pub(crate) fn add_line(all: &mut Vec<u64>, lines: &[u64], position: u32) -> Result<(), AllocError>
     ensures { OnOk result (all.new.items
         ≡ all.old.items ++ lines_at lines.now (position ∷ [])) }
 {

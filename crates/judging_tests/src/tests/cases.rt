@@ -218,6 +218,7 @@ fn name_of(end: JudgeEnd) -> &'static [u8] {
         JudgeEnd::TooFew => b"too-few",
         JudgeEnd::Undecided => b"undecided",
         JudgeEnd::OutOfMemory => b"out-of-memory",
+        JudgeEnd::CountFull => b"count-full",
         JudgeEnd::FileFault => b"file-fault",
     }
 }

@@ -3,8 +3,8 @@ use certificate_finder::Found;
 use figures::Form;
 use history_text::{BadLine, LineCause, ReadTextFault};
 use judge_run::{
-    Detail, JudgeEnd, Outcome, Scope, Shown, TellFault, answer_check, answer_judge, answer_show,
-    answer_with_page, judge_stream, judge_text, junit_text, tell_found,
+    Detail, JudgeEnd, Outcome, Question, Scope, Shown, TellFault, answer_check, answer_judge,
+    answer_show, answer_with_page, judge_stream, judge_text, junit_text, tell_found,
 };
 use std::alloc::{AllocError, Global};
 use std::hash::{BuildHasherDefault, FoldHasher};
@@ -23,7 +23,13 @@ pub fn judged<R: Read, W: Write>(
     told: &mut W,
 ) -> Result<JudgeEnd, TellFault> {
     let known: BuildHasherDefault<FoldHasher> = BuildHasherDefault::new();
-    match answer_judge(alloc, known, form, scope, detail, None, reader, told) {
+    let asked = Question {
+        form,
+        scope,
+        detail,
+        file: None,
+    };
+    match answer_judge(alloc, known, asked, reader, told) {
         Ok(outcome) => Ok(JudgeEnd::at_least(least, &outcome)),
         Err(fault) => Err(fault),
     }
@@ -73,17 +79,13 @@ pub fn page_of(
     let mut passed: Vec<u8> = Vec::new(alloc);
     let mut detail = Detail::NONE;
     detail.page = true;
-    let form = Form::Lines;
-    let Ok(answer) = answer_with_page(
-        alloc,
-        known,
-        form,
+    let asked = Question {
+        form: Form::Lines,
         scope,
         detail,
-        None,
-        &mut text,
-        &mut passed,
-    ) else {
+        file: None,
+    };
+    let Ok(answer) = answer_with_page(alloc, known, asked, &mut text, &mut passed) else {
         return Err(AllocError);
     };
     match &answer.page {
@@ -108,16 +110,13 @@ fn between(page: &[u8]) -> &[u8] {
 fn outcome_of(alloc: Global, mut text: &[u8]) -> Result<Box<Outcome>, AllocError> {
     let known: BuildHasherDefault<FoldHasher> = BuildHasherDefault::new();
     let mut told: Vec<u8> = Vec::new(alloc);
-    match answer_judge(
-        alloc,
-        known,
-        Form::Lines,
-        Scope::WHOLE,
-        Detail::NONE,
-        None,
-        &mut text,
-        &mut told,
-    ) {
+    let asked = Question {
+        form: Form::Lines,
+        scope: Scope::WHOLE,
+        detail: Detail::NONE,
+        file: None,
+    };
+    match answer_judge(alloc, known, asked, &mut text, &mut told) {
         Ok(outcome) => Ok(Box::new(alloc, outcome)?),
         Err(_) => Err(AllocError),
     }

@@ -14,7 +14,7 @@ pub struct Came {
     pub calls: usize,
     pub callers: usize,
     pub skipped: u64,
-    pub lines: Vec<u32>,
+    pub lines: Vec<u64>,
 }
 
 /// What comes of reading a text by a table that hashes by a known seed.

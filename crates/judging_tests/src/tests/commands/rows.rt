@@ -5,7 +5,7 @@ ghost use Rattle.judge_run.specs.declared.rejection.Rejection.{Rejection};
 ghost use Rattle.judging_tests.specs.Objects.{IsFaultTold, IsReasonTold, accepted_object};
 
 use figures::Form;
-use judge_run::{Detail, Outcome, Scope, TellFault, answer_check, answer_judge};
+use judge_run::{Detail, Outcome, Question, Scope, TellFault, answer_check, answer_judge};
 use std::alloc::Global;
 use std::hash::BuildHasher;
 use std::io::Read;
@@ -21,16 +21,13 @@ pub fn an_accepted_text_has_its_own_calls<S: BuildHasher + Copy + Drop, R: Read>
     ensures { IfOk result (λ outcome. (acceptance : Acceptance) → outcome ≡ Outcome.Accepted acceptance
         → out.new.items ≡ out.old.items ++ accepted_object acceptance) }
 {
-    match answer_judge(
-        alloc,
-        hash_builder,
-        Form::Json,
-        Scope::WHOLE,
+    let asked = Question {
+        form: Form::Json,
+        scope: Scope::WHOLE,
         detail,
-        None,
-        reader,
-        out,
-    ) {
+        file: None,
+    };
+    match answer_judge(alloc, hash_builder, asked, reader, out) {
         Ok(outcome) => Ok(outcome),
         Err(fault) => Err(fault),
     }
@@ -47,16 +44,13 @@ pub fn a_rejected_text_has_the_lines_of_its_reason<S: BuildHasher + Copy + Drop,
     ensures { IfOk result (λ outcome. (rejection : Rejection) → outcome ≡ Outcome.Rejected rejection
         → IsReasonTold rejection out.old.items out.new.items) }
 {
-    match answer_judge(
-        alloc,
-        hash_builder,
-        Form::Json,
-        Scope::WHOLE,
-        Detail::NONE,
-        None,
-        reader,
-        out,
-    ) {
+    let asked = Question {
+        form: Form::Json,
+        scope: Scope::WHOLE,
+        detail: Detail::NONE,
+        file: None,
+    };
+    match answer_judge(alloc, hash_builder, asked, reader, out) {
         Ok(outcome) => Ok(outcome),
         Err(fault) => Err(fault),
     }
@@ -89,16 +83,13 @@ pub fn want_of_memory_leaves_the_output<S: BuildHasher + Copy + Drop, R: Read>(
 ) -> Result<Outcome, TellFault>
     ensures { result ≡ Err TellFault.OutOfMemory → out.new.items ≡ out.old.items }
 {
-    match answer_judge(
-        alloc,
-        hash_builder,
+    let asked = Question {
         form,
-        Scope::WHOLE,
+        scope: Scope::WHOLE,
         detail,
-        None,
-        reader,
-        out,
-    ) {
+        file: None,
+    };
+    match answer_judge(alloc, hash_builder, asked, reader, out) {
         Ok(outcome) => Ok(outcome),
         Err(fault) => Err(fault),
     }

@@ -70,7 +70,7 @@ pub(super) enum What {
 pub(super) fn told(
     alloc: Global,
     history: &History,
-    lines: &[u32],
+    lines: &[u64],
     name: &[u8],
     reason: &Reason,
     what: What,

@@ -77,7 +77,7 @@ fn is_told(alloc: Global, history: &History, told: &[u8]) -> bool {
 
 /// Whether a text that was read by pieces is the whole.
 fn is_whole(alloc: Global, text: &Text) -> bool {
-    text.lines.as_slice() == [1u32, 3, 5, 6, 7].as_slice() && is_told(alloc, &text.history, TOLD)
+    text.lines.as_slice() == [1u64, 3, 5, 6, 7].as_slice() && is_told(alloc, &text.history, TOLD)
 }
 
 /// Whether the text is read right of a reader that gives so few bytes at a time, by pieces of so many calls, of which it has so many.
@@ -128,7 +128,7 @@ fn a_failed_read_is_told(rt: HostRuntime) -> Result<(), Fail> {
 fn keeps_some(alloc: Global, text: &mut Text) -> bool {
     text.keep(alloc, &[4, 1, 9]).is_ok()
         && is_told(alloc, &text.history, b"c0 9 9 put k w\nc1 3 - remove k\n")
-        && text.lines.as_slice() == [7u32, 3].as_slice()
+        && text.lines.as_slice() == [7u64, 3].as_slice()
         && text.callers.len() == 3
 }
 

@@ -101,7 +101,7 @@ fn a_line_without_end_is_bad_before_more_is_read(rt: HostRuntime) {
 /// Whether three calls are read of a reader, with their lines.
 fn is_whole(alloc: Global, reader: &mut Slow<'_>) -> bool {
     match came_of(alloc, Reading::WHOLE, reader) {
-        Ok(came) => came.calls == 3 && came.lines.as_slice() == [1u32, 3, 4].as_slice(),
+        Ok(came) => came.calls == 3 && came.lines.as_slice() == [1u64, 3, 4].as_slice(),
         Err(_) => false,
     }
 }

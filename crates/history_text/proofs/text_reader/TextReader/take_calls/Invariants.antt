@@ -15,4 +15,4 @@ invariant-loop-alloc g l = record {
 }
 
 abbrev pub decreases-loop-alloc : goal.decreases-loop-alloc
-decreases-loop-alloc g l = (2 ^ 32 + 1) - l.self.number
+decreases-loop-alloc g l = (2 ^ 63 + 1) - l.self.number
