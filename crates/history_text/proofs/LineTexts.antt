@@ -20,8 +20,8 @@ use Rattle.trace_file.specs.declared.act.Act.{Act}
 use Rattle.trace_file.specs.declared.act.Act.TheVariants.{Put, Remove, Hit, Miss}
 use Rattle.trace_file.specs.declared.call.Call.{Call}
 use Rattle.trace_file.specs.Calls.{value_of as act_value, time_of}
-use Rattle.history_text.specs.declared.line_kind.LineKind.{LineKind}
-use Rattle.history_text.specs.declared.line_kind.LineKind.TheVariants as kinds
+use Rattle.trace_file.specs.declared.call_kind.CallKind.{CallKind}
+use Rattle.trace_file.specs.declared.call_kind.CallKind.TheVariants as kinds
 use Rattle.history_text.specs.Coding.{word_of}
 use Rattle.history_text.specs.ReadingBack.{IsTold, name_of}
 use Rattle.history_text.specs.Spelling.{Spelled, act_of, has_words, head_of, key_of, kind_of, returns, spelled_of, spelled_of_words, time_at, value_of}
@@ -192,13 +192,13 @@ act_removes : (words : List (List ℕ)) → act_of kinds.Remove words ≡ Ok Rem
 unfolding act_of
 act_removes words = refl
 
-head_reads : (name key : List ℕ) (rest : List (List ℕ)) (start end : ℕ) (text : List ℕ) (kind : LineKind) → has_number start ≡ true → (has_number end || (end == never)) ≡ true → kind_of text ≡ Ok kind → has_words kind (length (name ∷ decimal start ∷ end_text end ∷ text ∷ key ∷ rest)) ≡ true → (returns kind && (end == never)) ≡ false → head_of (name ∷ decimal start ∷ end_text end ∷ text ∷ key ∷ rest) ≡ Ok (record { start = start; end = end; kind = kind })
+head_reads : (name key : List ℕ) (rest : List (List ℕ)) (start end : ℕ) (text : List ℕ) (kind : CallKind) → has_number start ≡ true → (has_number end || (end == never)) ≡ true → kind_of text ≡ Ok kind → has_words kind (length (name ∷ decimal start ∷ end_text end ∷ text ∷ key ∷ rest)) ≡ true → (returns kind && (end == never)) ≡ false → head_of (name ∷ decimal start ∷ end_text end ∷ text ∷ key ∷ rest) ≡ Ok (record { start = start; end = end; kind = kind })
 unfolding head_of
 head_reads name key rest start end text kind starts ends is counted done =
     rw (stamp_reads start starts, end_reads end ends, is, counted, done) refl
 
 -- words spell a call if each does
-words_spell : (name key : List ℕ) (rest : List (List ℕ)) (start end : ℕ) (text : List ℕ) (kind : LineKind) (act : Act) → head_of (name ∷ decimal start ∷ end_text end ∷ text ∷ word_of key ∷ rest) ≡ Ok (record { start = start; end = end; kind = kind }) → key_of (word_of key) ≡ Ok key → act_of kind (name ∷ decimal start ∷ end_text end ∷ text ∷ word_of key ∷ rest) ≡ Ok act → spelled_of_words (name ∷ decimal start ∷ end_text end ∷ text ∷ word_of key ∷ rest) ≡ Ok (record { caller = name; start = start; end = end; key = key; act = act })
+words_spell : (name key : List ℕ) (rest : List (List ℕ)) (start end : ℕ) (text : List ℕ) (kind : CallKind) (act : Act) → head_of (name ∷ decimal start ∷ end_text end ∷ text ∷ word_of key ∷ rest) ≡ Ok (record { start = start; end = end; kind = kind }) → key_of (word_of key) ≡ Ok key → act_of kind (name ∷ decimal start ∷ end_text end ∷ text ∷ word_of key ∷ rest) ≡ Ok act → spelled_of_words (name ∷ decimal start ∷ end_text end ∷ text ∷ word_of key ∷ rest) ≡ Ok (record { caller = name; start = start; end = end; key = key; act = act })
 unfolding spelled_of_words
 words_spell name key rest start end text kind act head keyed acted = rw (head, keyed, acted) refl
 

@@ -18,7 +18,8 @@ use Rattle.percent_encoding.specs.Percent.{percent_encode}
 use Rattle.percent_encoding.proofs.AsciiSetLemmas.{ascii_from_kept, outside_from_kept}
 use Rattle.percent_encoding.proofs.PercentLemmas.{IsEscapeByte, All-percent_encode, percent_encode_nonempty, length-percent_decode, round_trip}
 use Rattle.record_pages.specs.Expiry.{never}
-use Rattle.script_words.specs.Words.{is_word, are_digits, is_numeral, value_of, number_below}
+use Rattle.record_pages.specs.Digits.{are_digits, digits_value}
+use Rattle.script_words.specs.Words.{is_word, is_numeral, number_below}
 use Rattle.history_text.specs.declared.coding.TheConstants.{CODED}
 use Rattle.history_text.specs.Coding.{word_of}
 use Rattle.history_text.specs.ReadingBack.{name_of}
@@ -31,7 +32,7 @@ plain b = nat_le 33 b && nat_le b 126
 
 -- ---- numbers
 
-own : IsNumeralModel (λ ds. are_digits ds ≡ true) value_of
+own : IsNumeralModel (λ ds. are_digits ds ≡ true) digits_value
 own = numerals_by_fold _ (search rules) (λ n ds. fold (λ m digit. 10 * m + (digit - 48)) n ds) (search rules)
 
 digits : (n : ℕ) → n < 2 ^ 64 → are_digits (decimal n) ≡ true

@@ -3,8 +3,8 @@ use Rattle.std.specs.Prelude.{◌≡◌, ℕ, suc, ◌&&◌, List, if◌then◌e
 use Rattle.trace_file.specs.declared.act.Act.{Act}
 use Rattle.trace_file.specs.declared.act.Act.TheVariants as acts
 use Rattle.history_text.specs.declared.line_cause.LineCause.{LineCause}
-use Rattle.history_text.specs.declared.line_kind.LineKind.{LineKind}
-use Rattle.history_text.specs.declared.line_kind.LineKind.TheVariants.{Put, Hit, Miss, Remove}
+use Rattle.trace_file.specs.declared.call_kind.CallKind.{CallKind}
+use Rattle.trace_file.specs.declared.call_kind.CallKind.TheVariants.{Put, Hit, Miss, Remove}
 use Rattle.history_text.specs.declared.text_fault.TextFault.{TextFault}
 use Rattle.history_text.specs.declared.text_fault.TextFault.TheVariants.{Bad, OutOfMemory}
 use Rattle.history_text.specs.declared.spelling.Spelling.{Spelling}
@@ -13,7 +13,7 @@ use Rattle.history_text.specs.Readings.{is_of_line}
 use Rattle.history_text.specs.Spelling.{Spelled}
 
 -- the act of a kind, with the value and the time if it has them
-abbrev pub act_by : LineKind → List ℕ → ℕ → Act
+abbrev pub act_by : CallKind → List ℕ → ℕ → Act
 act_by Put value time = acts.Put value time
 act_by Hit value time = acts.Hit value time
 act_by Miss value time = acts.Miss

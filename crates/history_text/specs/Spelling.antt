@@ -7,8 +7,8 @@ use Rattle.trace_file.specs.declared.act.Act.{Act}
 use Rattle.trace_file.specs.declared.act.Act.TheVariants as acts
 use Rattle.history_text.specs.declared.line_cause.LineCause.{LineCause}
 use Rattle.history_text.specs.declared.line_cause.LineCause.TheVariants.{NotWords, BadStart, BadEnd, BadKind, WrongCount, NoReturn, BadKeyCode, BadKeyLen, BadValueCode, BadValueLen, BadExpiry, BadMoment}
-use Rattle.history_text.specs.declared.line_kind.LineKind.{LineKind}
-use Rattle.history_text.specs.declared.line_kind.LineKind.TheVariants.{Put, Hit, Miss, Remove}
+use Rattle.trace_file.specs.declared.call_kind.CallKind.{CallKind}
+use Rattle.trace_file.specs.declared.call_kind.CallKind.TheVariants.{Put, Hit, Miss, Remove}
 use Rattle.history_text.specs.declared.line_head.LineHead.{LineHead}
 use Rattle.history_text.specs.Coding.{bytes_of}
 
@@ -34,7 +34,7 @@ unfoldable pub end_of : List ℕ → Result ℕ LineCause
 end_of text = if bytes_eq text (codes "-") then Ok never else ok_or (stamp_of text) BadEnd
 
 -- what a call did, without its value and time
-abbrev pub kind_of : List ℕ → Result LineKind LineCause
+abbrev pub kind_of : List ℕ → Result CallKind LineCause
 kind_of text =
     if bytes_eq text (codes "put") then Ok Put
     else (if bytes_eq text (codes "hit") then Ok Hit
@@ -42,14 +42,14 @@ kind_of text =
     else (if bytes_eq text (codes "remove") then Ok Remove else Err BadKind)))
 
 -- a line of a kind can have this many words: the last, a time, may be left out
-abbrev pub has_words : LineKind → ℕ → Bool
+abbrev pub has_words : CallKind → ℕ → Bool
 has_words Put count = (count == 6) || (count == 7)
 has_words Hit count = (count == 6) || (count == 7)
 has_words Miss count = count == 5
 has_words Remove count = count == 5
 
 -- a call of this kind is known by what it returned
-abbrev pub returns : LineKind → Bool
+abbrev pub returns : CallKind → Bool
 returns Put = false
 returns Hit = true
 returns Miss = true
@@ -81,7 +81,7 @@ unfoldable pub time_at : List (List ℕ) → ℕ → LineCause → Result ℕ Li
 time_at words other cause = if nat_le (length words) 6 then Ok other else ok_or (stamp_of (word words 6)) cause
 
 -- what the call did. If no time is named, a put never expires, and a hit was at 0
-unfoldable pub act_of : LineKind → List (List ℕ) → Result Act LineCause
+unfoldable pub act_of : CallKind → List (List ℕ) → Result Act LineCause
 act_of Put words = do
   value ← value_of (word words 5)
   expires ← time_at words never BadExpiry

@@ -8,12 +8,13 @@ ghost use Rattle.history_text.specs.Text.{is_passed_over};
 use crate::coding::decode;
 use crate::line_cause::LineCause;
 use crate::line_head::LineHead;
-use crate::line_kind::LineKind;
+use crate::line_kind::{has_words, kind_of, returns};
 use crate::spelling::Spelling;
 use crate::text_fault::TextFault;
 use arrayvec::ArrayVec;
 use record_pages::{Key, NEVER, Value};
 use script_words::{MAX_WORDS, time, words_in};
+use trace_file::CallKind;
 
 /// The fewest words of a line: caller, start, end, kind and key.
 const FEWEST: usize = 5;
@@ -92,11 +93,11 @@ fn head_of(words: &[&[u8]]) -> Result<LineHead, LineCause>
 {
     let start = stamp_or(words[1], LineCause::BadStart)?;
     let end = end(words[2])?;
-    let kind = LineKind::of(words[3])?;
-    if !kind.has_words(words.len()) {
+    let kind = kind_of(words[3])?;
+    if !has_words(kind, words.len()) {
         return Err(LineCause::WrongCount);
     }
-    if kind.returns() && end == NEVER {
+    if returns(kind) && end == NEVER {
         return Err(LineCause::NoReturn);
     }
     Ok(LineHead { start, end, kind })
@@ -148,22 +149,22 @@ fn time_at(words: &[&[u8]], other: u64, cause: LineCause) -> Result<u64, LineCau
 /// Puts the bytes of the value that a line of this kind names in place of those of `bytes`, and answers the time that it
 /// names. The value of a kind that has none is empty, and its time 0.
 #[tactic(auto, unfolding(crate::specs::Spelling::act_of), using(crate::proofs::Saying::said_on))]
-fn take_act(kind: LineKind, words: &[&[u8]], bytes: &mut Vec<u8>) -> Result<u64, TextFault>
+fn take_act(kind: CallKind, words: &[&[u8]], bytes: &mut Vec<u8>) -> Result<u64, TextFault>
     requires { IsTrue (has_words kind (length words.now)) }
     ensures ok { IfOk result (λ time. act_of kind (map (λ w. w.now) words.now) ≡ Ok (act_by kind bytes.new.items time)) }
     ensures value { OnOk result (IsValue bytes.new.items) }
     ensures bad { IfErr result (IsSaid (act_of kind (map (λ w. w.now) words.now))) }
 {
     match kind {
-        LineKind::Put => {
+        CallKind::Put => {
             take_value(words[5], bytes)?;
             Ok(time_at(words, NEVER, LineCause::BadExpiry)?)
         }
-        LineKind::Hit => {
+        CallKind::Hit => {
             take_value(words[5], bytes)?;
             Ok(time_at(words, 0, LineCause::BadMoment)?)
         }
-        LineKind::Miss | LineKind::Remove => {
+        CallKind::Miss | CallKind::Remove => {
             bytes.clear();
             Ok(0)
         }

@@ -6,6 +6,7 @@ ghost use Rattle.history_text.specs.Spelled.{skipped_or};
 use crate::callers::Callers;
 use crate::keeping::{history_at, lines_at};
 use crate::line_cause::LineCause;
+use crate::line_kind::act_by;
 use crate::line_taking::{is_passed_over, take_line};
 use crate::pair_bytes::PairBytes;
 use crate::reading::Reading;
@@ -142,7 +143,7 @@ impl<S: BuildHasher> TextHistory<S> {
             return Err(TextFault::Bad(LineCause::TooManyCalls));
         }
         let caller = self.callers.number(alloc, spelling.caller)?;
-        let act = spelling.head.kind.act(&parts.value, spelling.time);
+        let act = act_by(spelling.head.kind, &parts.value, spelling.time);
         let call = CallRef::new(
             caller,
             spelling.head.start,

@@ -15,20 +15,20 @@ use Rattle.judge_run.specs.declared.told_fault.ToldFault.{ToldFault}
 use Rattle.trace_file.specs.declared.call.Call.{Call}
 use Rattle.judge_run.specs.Listing.{HasKeys, keys_of}
 use Rattle.judge_run.specs.Telling.{first_position, key_at}
-use Rattle.judge_run.specs.declared.fault_key.FaultKey.{FaultKey}
+use Rattle.trace_file.specs.declared.lent_word.LentWord.{LentWord}
 
 -- keys are equal if their bytes are
-abbrev pub same : FaultKey → FaultKey → Bool
+abbrev pub same : LentWord → LentWord → Bool
 same one other = bytes_eq one.bytes.now other.bytes.now
 
 same_laws : IsEquivalence same
 same_laws = on_equiv (λ key. key.bytes.now) nat_list_eq_equiv
 
 -- a key of these bytes, wherever they stand
-abbrev pub lent : List ℕ → FaultKey
+abbrev pub lent : List ℕ → LentWord
 lent word = record { bytes = record { ref_ptr = (0, 0); now = word } }
 
-member_lent : (words : List (List ℕ)) (key : FaultKey) → is_member same (map lent words) key ≡ is_member bytes_eq words key.bytes.now
+member_lent : (words : List (List ℕ)) (key : LentWord) → is_member same (map lent words) key ≡ is_member bytes_eq words key.bytes.now
 member_lent [] key = refl
 member_lent (word ∷ words) key = ap (λ b. bytes_eq key.bytes.now word || b) (member_lent words key)
 
@@ -47,7 +47,7 @@ either false false = refl
 
 module _ {S : Type 0} where
   -- a set that was given one key more has it, and those that it had
-  pub one_more : (old new : HashSet FaultKey S) (key : FaultKey) (words : List (List ℕ)) → ((q : FaultKey) → contains_by (same q) new ≡ cond (same key q) true (contains_by (same q) old)) → HasKeys old words → HasKeys new (words ++ key.bytes.now ∷ [])
+  pub one_more : (old new : HashSet LentWord S) (key : LentWord) (words : List (List ℕ)) → ((q : LentWord) → contains_by (same q) new ≡ cond (same key q) true (contains_by (same q) old)) → HasKeys old words → HasKeys new (words ++ key.bytes.now ∷ [])
   one_more old new key words updates has word =
       updates (lent word)
       ∙ ap (λ b. cond b true (contains_by (same (lent word)) old)) (nat_list_eq_equiv.symm key.bytes.now word)
@@ -56,7 +56,7 @@ module _ {S : Type 0} where
       ∙ sym (list_any-append (bytes_eq word) words (key.bytes.now ∷ []))
 
   -- a set that has these keys has as many as there are
-  pub count_is : (set : HashSet FaultKey S) (words : List (List ℕ)) → IsDistinct same set.keys → HasKeys set words → length set.keys ≡ distinct_count bytes_eq words
+  pub count_is : (set : HashSet LentWord S) (words : List (List ℕ)) → IsDistinct same set.keys → HasKeys set words → length set.keys ≡ distinct_count bytes_eq words
   count_is set words distinct has =
       length-from_keys same_laws set.keys (map lent words) distinct (λ key. has key.bytes.now ∙ sym (member_lent words key))
       ∙ count_lent words

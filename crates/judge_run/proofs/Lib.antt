@@ -12,3 +12,4 @@ mod KeepLaws
 mod StreamLaws
 mod TextLaws
 mod PageLaws
+mod CountLaws

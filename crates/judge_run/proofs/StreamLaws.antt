@@ -19,19 +19,19 @@ use Rattle.history_window.specs.Standing.{Acceptable}
 use Rattle.history_window.specs.Streams.{ArePuts, IsKept, IsLastOf, IsPartedIf, Piece, PiecesExclude, PiecesStand, added_in, bound_after, calls_in, decided_in, first_start, judged_in, judged_lines, lines_in, lines_of, waiting_in, waiting_lines_in}
 use Rattle.judge_run.specs.declared.forgotten.Forgotten.{Forgotten}
 use Rattle.judge_run.specs.declared.kind_counts.KindCounts.{KindCounts}
-use Rattle.judge_run.specs.declared.kinds.CountedKind.{CountedKind}
-use Rattle.judge_run.specs.declared.kinds.CountedKind.TheVariants.{Put, Removal, Hit, Miss}
+use Rattle.trace_file.specs.declared.call_kind.CallKind.{CallKind}
+use Rattle.trace_file.specs.declared.call_kind.CallKind.TheVariants.{Put, Remove, Hit, Miss}
 use Rattle.judge_run.specs.declared.scope.Scope.{Scope}
 use Rattle.judge_run.specs.Kinds as kinds
 use Rattle.judge_run.specs.Kinds.{counts_in}
 use Rattle.judge_run.specs.Scopes.{IsCounted, IsWarmedIf}
 use Rattle.judge_run.specs.Streams as streams
-use Rattle.judge_run.specs.Streams.{AreCounted, IsGoing, IsGrown, IsJudgedLast, IsReadSoFar, IsStreamed, IsTaken, IsToldOf, added_if, was_accepted, was_decided}
+use Rattle.judge_run.specs.Streams.{AreCounted, HasUndecided, IsGoing, IsGrown, IsJudgedLast, IsReadSoFar, IsStreamed, IsTaken, IsToldOf, added_if, was_accepted, was_decided}
 use Rattle.judge_run.proofs.WarmLaws.{puts_count}
 
 -- ---- counting
 
-count_both : (kind : CountedKind) (xs ys : List Call) → kinds.calls_of kind (xs ++ ys) ≡ kinds.calls_of kind xs + kinds.calls_of kind ys
+pub count_both : (kind : CallKind) (xs ys : List Call) → kinds.calls_of kind (xs ++ ys) ≡ kinds.calls_of kind xs + kinds.calls_of kind ys
 count_both kind xs ys = sum_by-append (λ c. cond (kinds.is_of kind c) 1 0) xs ys
 
 counted_more : (forgotten : Forgotten) (all list more : List Call) → AreCounted forgotten all list → AreCounted forgotten (all ++ more) (list ++ more)
@@ -41,15 +41,15 @@ counted_more forgotten all list more are = λ kind.
     let c = are kind in
     omega (arith, a, b, c)
 
-grown_of : (kind : CountedKind) (forgotten new : Forgotten) (before after : KindCounts) (from_start : Option ℕ) (all judged kept : List Call) → before ≡ counts_in judged → after ≡ counts_in kept → IsGrown forgotten new before after from_start → AreCounted forgotten all judged → kinds.calls_of kind all ≡ kinds.calls_of kind kept + kinds.gone_of kind (Some new)
+grown_of : (kind : CallKind) (forgotten new : Forgotten) (before after : KindCounts) (from_start : Option ℕ) (all judged kept : List Call) → before ≡ counts_in judged → after ≡ counts_in kept → IsGrown forgotten new before after from_start → AreCounted forgotten all judged → kinds.calls_of kind all ≡ kinds.calls_of kind kept + kinds.gone_of kind (Some new)
 grown_of Put forgotten new before after from_start all judged kept b a grown are =
     let c = are Put in
     let x = ap (λ (n : KindCounts). n.puts) b in
     let y = ap (λ (n : KindCounts). n.puts) a in
     let g = grown.puts in
     omega (arith, c, x, y, g)
-grown_of Removal forgotten new before after from_start all judged kept b a grown are =
-    let c = are Removal in
+grown_of Remove forgotten new before after from_start all judged kept b a grown are =
+    let c = are Remove in
     let x = ap (λ (n : KindCounts). n.removals) b in
     let y = ap (λ (n : KindCounts). n.removals) a in
     let g = grown.removals in
@@ -68,9 +68,9 @@ grown_of Miss forgotten new before after from_start all judged kept b a grown ar
     omega (arith, c, x, y, g)
 
 -- what is counted of a kind is the same in both words
-same_gone : (kind : CountedKind) (new : Forgotten) (all kept : List Call) → kinds.calls_of kind all ≡ kinds.calls_of kind kept + kinds.gone_of kind (Some new) → kinds.calls_of kind all ≡ kinds.calls_of kind kept + streams.forgotten_of kind new
+same_gone : (kind : CallKind) (new : Forgotten) (all kept : List Call) → kinds.calls_of kind all ≡ kinds.calls_of kind kept + kinds.gone_of kind (Some new) → kinds.calls_of kind all ≡ kinds.calls_of kind kept + streams.forgotten_of kind new
 same_gone Put new all kept is = is
-same_gone Removal new all kept is = is
+same_gone Remove new all kept is = is
 same_gone Hit new all kept is = is
 same_gone Miss new all kept is = is
 
@@ -105,7 +105,7 @@ added_by false text judged from_start is = record {
   added = is.1;
 }
 
-puts_added : (warm : Bool) (calls : List Call) (lines : List ℕ) (puts : List Call) (put_lines : List ℕ) (from_start : Option ℕ) → ArePuts warm calls lines puts put_lines → from_start ≡ added_if warm puts → unwrap_or from_start 0 ≡ length puts
+pub puts_added : (warm : Bool) (calls : List Call) (lines : List ℕ) (puts : List Call) (put_lines : List ℕ) (from_start : Option ℕ) → ArePuts warm calls lines puts put_lines → from_start ≡ added_if warm puts → unwrap_or from_start 0 ≡ length puts
 puts_added true calls lines puts put_lines from_start are is = ap (λ (o : Option ℕ). unwrap_or o 0) is
 puts_added false calls lines puts put_lines from_start are is = ap (λ (o : Option ℕ). unwrap_or o 0) is ∙ sym (ap length are.0)
 
@@ -199,6 +199,12 @@ module _ (scope : Scope) (window least : ℕ) (known left : Option (List ℕ)) (
 
 -- ---- what was found
 
+-- what is not decided
+undecided_by : (calls : List Call) (found : Found) → IsFound calls found → was_decided found ≡ false → HasUndecided calls
+undecided_by calls (verdicts.Accepted certificate) is open = absurd cc
+undecided_by calls (verdicts.Rejected witness) is open = absurd cc
+undecided_by calls (verdicts.Undecided hits) is open = (hits.items, is.undecided)
+
 -- what was decided and not accepted is not acceptable
 unacceptable_by : WitnessExcludes → (calls : List Call) (found : Found) → IsFound calls found → was_accepted found ≡ false → was_decided found ≡ true → ¬ Acceptable calls
 unacceptable_by excludes calls (verdicts.Accepted certificate) is no_one yes_one past = absurd cc
@@ -215,15 +221,15 @@ plus_none : (n : ℕ) → n + 0 ≡ n
 plus_none n = omega arith
 
 -- the calls that wait are counted among those that are gone
-gone_with : (kind : CountedKind) (forgotten gone : Forgotten) (all told waiting : List Call) → IsGrown forgotten gone (counts_in waiting) (counts_in []) None → AreCounted forgotten all told → kinds.calls_of kind (all ++ waiting) ≡ kinds.calls_of kind told + streams.forgotten_of kind gone
+gone_with : (kind : CallKind) (forgotten gone : Forgotten) (all told waiting : List Call) → IsGrown forgotten gone (counts_in waiting) (counts_in []) None → AreCounted forgotten all told → kinds.calls_of kind (all ++ waiting) ≡ kinds.calls_of kind told + streams.forgotten_of kind gone
 gone_with Put forgotten gone all told waiting grown are =
     let a = count_both Put all waiting in
     let c = are Put in
     let g = grown.puts in
     omega (arith, a, c, g)
-gone_with Removal forgotten gone all told waiting grown are =
-    let a = count_both Removal all waiting in
-    let c = are Removal in
+gone_with Remove forgotten gone all told waiting grown are =
+    let a = count_both Remove all waiting in
+    let c = are Remove in
     let g = grown.removals in
     omega (arith, a, c, g)
 gone_with Hit forgotten gone all told waiting grown are =
@@ -264,6 +270,7 @@ streamed stand exclude excludes scope window least over known left progress judg
   told_is = told_of stand exclude excludes scope window known left l.last l.earlier judged.calls l.calls_are found is over unaccepted ended l.are judged refl;
   gone = gone;
   gone_is = refl;
+  undecided = undecided_by judged.calls found is;
   counted = λ kind. gone_with kind forgotten gone (decided_in (l.last ∷ l.earlier)) judged.calls waiting grown (subst (AreCounted forgotten (decided_in (l.last ∷ l.earlier))) (sym l.calls_are) l.counted);
   added = grown.added ∙ plus_none forgotten.added ∙ l.added_before;
   skipped = counted;
@@ -289,9 +296,9 @@ pub never_accepted : (P : Type 0) (one : Bool) → one ≡ false → one ≡ tru
 never_accepted P true is yes_one = absurd cc
 never_accepted P false is yes_one = absurd cc
 
-none_of : (kind : CountedKind) → streams.forgotten_of kind (record { puts = 0; removals = 0; hits = 0; misses = 0; added = 0 }) ≡ 0
+none_of : (kind : CallKind) → streams.forgotten_of kind (record { puts = 0; removals = 0; hits = 0; misses = 0; added = 0 }) ≡ 0
 none_of Put = refl
-none_of Removal = refl
+none_of Remove = refl
 none_of Hit = refl
 none_of Miss = refl
 

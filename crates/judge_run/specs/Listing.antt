@@ -11,7 +11,7 @@ use Rattle.certificate_finder.specs.declared.unread_hit.UnreadHit.{UnreadHit}
 use Rattle.certificate_finder.specs.declared.witness.Witness.{Witness}
 use Rattle.certificate_finder.specs.declared.witness.Witness.TheVariants.{Interval, Hit, Crossed, Unread}
 use Rattle.certificate_finder.specs.Faults.{AreFaults}
-use Rattle.judge_run.specs.declared.fault_key.FaultKey.{FaultKey}
+use Rattle.trace_file.specs.declared.lent_word.LentWord.{LentWord}
 use Rattle.judge_run.specs.declared.fault_list.FaultList.{FaultList}
 use Rattle.judge_run.specs.declared.told_fault.ToldFault.{ToldFault}
 use Rattle.judge_run.specs.Telling.{first_position, key_at}
@@ -55,7 +55,7 @@ abbrev pub key_count : List Call → List ToldFault → ℕ
 key_count history faults = distinct_count bytes_eq (keys_of history faults)
 
 -- a set has these keys, and no other one
-abbrev pub HasKeys : {S : Type 0} → HashSet FaultKey S → List (List ℕ) → Type 0
+abbrev pub HasKeys : {S : Type 0} → HashSet LentWord S → List (List ℕ) → Type 0
 HasKeys set keys = (key : List ℕ) → contains_by (λ word. bytes_eq key word.bytes.now) set ≡ is_member bytes_eq keys key
 
 -- these are all faults of a history, and how many keys they are about

@@ -17,8 +17,8 @@ use Rattle.certificate_finder.specs.Finding.{AreUndecided, IfRejected, IsFound}
 use Rattle.history_window.specs.Streams.{ArePieces, IsKeptAfter, IsLastOf, Piece, added_in, bound_after, calls_in, decided_in, first_start, judged_in, judged_lines, last_end, lines_in, puts_in, waiting_in, waiting_lines_in}
 use Rattle.judge_run.specs.declared.extent.Extent.{Extent}
 use Rattle.judge_run.specs.declared.forgotten.Forgotten.{Forgotten}
-use Rattle.judge_run.specs.declared.kinds.CountedKind.{CountedKind}
-use Rattle.judge_run.specs.declared.kinds.CountedKind.TheVariants.{Put, Removal, Hit, Miss}
+use Rattle.trace_file.specs.declared.call_kind.CallKind.{CallKind}
+use Rattle.trace_file.specs.declared.call_kind.CallKind.TheVariants.{Put, Remove, Hit, Miss}
 use Rattle.judge_run.specs.declared.fault_list.FaultList.{FaultList}
 use Rattle.judge_run.specs.declared.kind_counts.KindCounts.{KindCounts}
 use Rattle.judge_run.specs.declared.piece_rule.PieceRule.{PieceRule}
@@ -43,15 +43,15 @@ pub record IsReadSoFar (scope : Scope) (known left : Option (List ℕ)) (progres
   pub good : read_from endless scope.reading (read_by no_text 0) 1 front ≡ Ok (read_by spelled progress.skipped)
 
 -- how many calls of a kind were forgotten
-abbrev pub forgotten_of : CountedKind → Forgotten → ℕ
+abbrev pub forgotten_of : CallKind → Forgotten → ℕ
 forgotten_of Put forgotten = forgotten.puts
-forgotten_of Removal forgotten = forgotten.removals
+forgotten_of Remove forgotten = forgotten.removals
 forgotten_of Hit forgotten = forgotten.hits
 forgotten_of Miss forgotten = forgotten.misses
 
 -- of each kind, all calls are those of this list and those that were forgotten
 abbrev pub AreCounted : Forgotten → List Call → List Call → Type 0
-AreCounted forgotten all list = (kind : CountedKind) → kinds.calls_of kind all ≡ kinds.calls_of kind list + forgotten_of kind forgotten
+AreCounted forgotten all list = (kind : CallKind) → kinds.calls_of kind all ≡ kinds.calls_of kind list + forgotten_of kind forgotten
 
 -- how many puts were added, if that was asked for
 abbrev pub added_if : Bool → List Call → Option ℕ
@@ -204,7 +204,7 @@ pub record IsCountFull (scope : Scope) (window least : ℕ) (known : Option (Lis
   pub forgotten : Forgotten
   pub from_start : Option ℕ
   pub is : IsJudgedLast scope window least unended known left progress judged waiting waiting_lines latest forgotten from_start
-  pub full : ((kind : CountedKind) × (2 ^ 64 ≤ kinds.calls_of kind (decided_in (is.last ∷ is.earlier) ++ waiting))) ⊎ (2 ^ 64 ≤ puts_in (is.last ∷ is.earlier))
+  pub full : ((kind : CallKind) × (2 ^ 64 ≤ kinds.calls_of kind (decided_in (is.last ∷ is.earlier) ++ waiting))) ⊎ (2 ^ 64 ≤ puts_in (is.last ∷ is.earlier))
 
 -- why a stream is not judged: its first bad line, or the first call that starts too early, whichever comes first; or too many calls; or the reader or memory refused something
 abbrev pub IsStreamFault : Scope → ℕ → ℕ → Option (List ℕ) → ReadTextFault → Type 0
@@ -312,16 +312,16 @@ pub record AreFewer (calls others : KindCounts) : Type 0 where
   pub misses : calls.misses ≤ others.misses
 
 -- how many calls of a kind there are, by these counts
-abbrev pub count_of : CountedKind → KindCounts → ℕ
+abbrev pub count_of : CallKind → KindCounts → ℕ
 count_of Put counts = counts.puts
-count_of Removal counts = counts.removals
+count_of Remove counts = counts.removals
 count_of Hit counts = counts.hits
 count_of Miss counts = counts.misses
 
 -- of some kind, 64 bits can't count these calls and those that were forgotten; or they can't count the puts that were added, with so many more
 abbrev pub IsOver : Forgotten → KindCounts → Option ℕ → Type 0
 IsOver forgotten counts from_start =
-    ((kind : CountedKind) × (2 ^ 64 ≤ count_of kind counts + forgotten_of kind forgotten)) ⊎ (2 ^ 64 ≤ forgotten.added + unwrap_or from_start 0)
+    ((kind : CallKind) × (2 ^ 64 ≤ count_of kind counts + forgotten_of kind forgotten)) ⊎ (2 ^ 64 ≤ forgotten.added + unwrap_or from_start 0)
 
 -- the fewest calls of a piece of a text that is read as a stream, but for the last piece
 abbrev pub least_piece : ℕ

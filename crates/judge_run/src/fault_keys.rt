@@ -2,13 +2,12 @@
 ghost use Rattle.std.specs.Prelude.{◌≡◌, IfOk};
 ghost use Rattle.judge_run.specs.Listing.{key_count};
 
-use crate::fault_key::FaultKey;
 use crate::key_word::{first_position, key_at};
 use crate::told_fault::ToldFault;
 use std::alloc::{AllocError, Global};
 use std::collections::HashSet;
 use std::hash::BuildHasher;
-use trace_file::History;
+use trace_file::{History, LentWord};
 
 /// How many keys these faults are about.
 pub(crate) fn key_count<S: BuildHasher + Drop>(
@@ -19,10 +18,10 @@ pub(crate) fn key_count<S: BuildHasher + Drop>(
 ) -> Result<usize, AllocError>
     ensures { IfOk result (λ count. count ≡ key_count history.now faults.now) }
 {
-    let mut keys: HashSet<FaultKey<'_>, S> = HashSet::with_hasher(alloc, hash_builder);
+    let mut keys: HashSet<LentWord<'_>, S> = HashSet::with_hasher(alloc, hash_builder);
     for fault in faults {
         let bytes = key_at(history, first_position(&fault.reason));
-        keys.insert(FaultKey { bytes })?;
+        keys.insert(LentWord { bytes })?;
     }
     Ok(keys.len())
 }

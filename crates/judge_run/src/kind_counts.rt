@@ -4,8 +4,8 @@ ghost use Rattle.judge_run.specs.Kinds.{counts_in};
 ghost use Rattle.judge_run.specs.Streams.{AreFewer, IsGrown, IsOver};
 
 use crate::forgotten::Forgotten;
-use crate::kinds::{CountedKind, calls_of};
-use trace_file::History;
+use crate::kinds::calls_of;
+use trace_file::{CallKind, History};
 
 /// How many calls of each kind a history has.
 #[derive(Drop)]
@@ -21,10 +21,10 @@ pub(crate) fn counts_of(history: &History) -> KindCounts
     ensures { result ≡ counts_in history.now }
 {
     KindCounts {
-        puts: calls_of(history, CountedKind::Put),
-        removals: calls_of(history, CountedKind::Removal),
-        hits: calls_of(history, CountedKind::Hit),
-        misses: calls_of(history, CountedKind::Miss),
+        puts: calls_of(history, CallKind::Put),
+        removals: calls_of(history, CallKind::Remove),
+        hits: calls_of(history, CallKind::Hit),
+        misses: calls_of(history, CallKind::Miss),
     }
 }
 

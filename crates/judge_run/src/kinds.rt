@@ -9,31 +9,22 @@ use crate::extents::{added_before, own_of, with_forgotten};
 use crate::forgotten::Forgotten;
 use figures::{Figure, Form};
 use std::alloc::{AllocError, Global};
-use trace_file::{ActRef, CallRef, History};
-
-/// A kind of call.
-#[derive(Clone, Copy)]
-pub(crate) enum CountedKind {
-    Put,
-    Removal,
-    Hit,
-    Miss,
-}
+use trace_file::{ActRef, CallKind, CallRef, History};
 
 /// Whether a call is of a kind.
-fn is_of(kind: CountedKind, call: &CallRef<'_>) -> bool
+fn is_of(kind: CallKind, call: &CallRef<'_>) -> bool
     ensures { result ≡ is_of kind (call_shown call.now) }
 {
     match kind {
-        CountedKind::Put => matches!(call.act, ActRef::Put(..)),
-        CountedKind::Removal => matches!(call.act, ActRef::Remove),
-        CountedKind::Hit => matches!(call.act, ActRef::Hit(..)),
-        CountedKind::Miss => matches!(call.act, ActRef::Miss),
+        CallKind::Put => matches!(call.act, ActRef::Put(..)),
+        CallKind::Remove => matches!(call.act, ActRef::Remove),
+        CallKind::Hit => matches!(call.act, ActRef::Hit(..)),
+        CallKind::Miss => matches!(call.act, ActRef::Miss),
     }
 }
 
 /// How many calls of a kind a history has.
-pub(crate) fn calls_of(history: &History, kind: CountedKind) -> usize
+pub(crate) fn calls_of(history: &History, kind: CallKind) -> usize
     ensures { result ≡ calls_of kind history.now }
 {
     let mut calls = 0;
@@ -46,22 +37,22 @@ pub(crate) fn calls_of(history: &History, kind: CountedKind) -> usize
 }
 
 /// How many calls of a kind were judged and forgotten.
-fn gone_of(kind: CountedKind, forgotten: Option<Forgotten>) -> usize
+fn gone_of(kind: CallKind, forgotten: Option<Forgotten>) -> usize
     ensures { result ≡ gone_of kind forgotten }
 {
     let Some(gone) = forgotten else {
         return 0;
     };
     match kind {
-        CountedKind::Put => gone.puts as usize,
-        CountedKind::Removal => gone.removals as usize,
-        CountedKind::Hit => gone.hits as usize,
-        CountedKind::Miss => gone.misses as usize,
+        CallKind::Put => gone.puts as usize,
+        CallKind::Remove => gone.removals as usize,
+        CallKind::Hit => gone.hits as usize,
+        CallKind::Miss => gone.misses as usize,
     }
 }
 
 /// So many calls of a kind, and those that were forgotten.
-fn told_of(kind: CountedKind, extent: &Extent, own: usize) -> usize
+fn told_of(kind: CallKind, extent: &Extent, own: usize) -> usize
     ensures { result ≡ told_of kind extent.now own }
 {
     with_forgotten(own, gone_of(kind, extent.forgotten))
@@ -78,16 +69,14 @@ pub(crate) fn tell_kinds(
     ensures { OnOk result (string_bytes text.new
         ≡ with_rows form (string_bytes text.old) (kind_rows extent.now history.now)) }
 {
-    let own = own_of(extent, calls_of(history, CountedKind::Put));
-    let puts = told_of(CountedKind::Put, extent, own).saturating_sub(added_before(
-        extent.forgotten,
-    ));
-    let removals = calls_of(history, CountedKind::Removal);
-    let removals = told_of(CountedKind::Removal, extent, removals);
-    let hits = calls_of(history, CountedKind::Hit);
-    let hits = told_of(CountedKind::Hit, extent, hits);
-    let misses = calls_of(history, CountedKind::Miss);
-    let misses = told_of(CountedKind::Miss, extent, misses);
+    let own = own_of(extent, calls_of(history, CallKind::Put));
+    let puts = told_of(CallKind::Put, extent, own).saturating_sub(added_before(extent.forgotten));
+    let removals = calls_of(history, CallKind::Remove);
+    let removals = told_of(CallKind::Remove, extent, removals);
+    let hits = calls_of(history, CallKind::Hit);
+    let hits = told_of(CallKind::Hit, extent, hits);
+    let misses = calls_of(history, CallKind::Miss);
+    let misses = told_of(CallKind::Miss, extent, misses);
     form.tell(alloc, text, "puts", Figure::Count(puts as u64))?;
     form.tell(alloc, text, "removals", Figure::Count(removals as u64))?;
     form.tell(alloc, text, "hits", Figure::Count(hits as u64))?;

@@ -8,7 +8,6 @@ mod checking;
 mod detail;
 mod extent;
 mod extents;
-mod fault_key;
 mod fault_keys;
 mod fault_lines;
 mod fault_list;

@@ -3,7 +3,7 @@ use Rattle.std.proofs.Common.{◌≡◌, ◌∙◌, ◌≤◌, ◌+◌, ℕ, Boo
 use Rattle.std.proofs.lemmas.List.Sums.{sum_by_push}
 use Rattle.certificate_checker.proofs.public_laws.Lookups.{take_next}
 use Rattle.trace_file.specs.declared.call.Call.{Call}
-use Rattle.judge_run.specs.declared.kinds.CountedKind.{CountedKind}
+use Rattle.trace_file.specs.declared.call_kind.CallKind.{CallKind}
 use Rattle.judge_run.specs.Kinds.{is_of}
 use Rattle.judge_run.proofs.kinds.calls_of.Goals.{then-is_of, else-is_of}
 use Rattle.judge_run.proofs.kinds.calls_of.Goals as goal
@@ -23,7 +23,7 @@ most false = omega arith
 same_bit : (n : ℕ) (a b : Bool) → a ≡ b → n + cond b 1 0 ≡ n + cond a 1 0
 same_bit n a b same = ap (λ (c : Bool). n + cond c 1 0) (sym same)
 
-one_more : (kind : CountedKind) (history : List Call) (position before after : ℕ) (call : Call) (is_one : Bool) → slice_get history position ≡ Some call → is_one ≡ is_of kind call → (before ≡ count_by (is_of kind) (take position history)) × (before ≤ position) → after ≡ before + cond is_one 1 0 → (after ≡ count_by (is_of kind) (take (position + 1) history)) × (after ≤ position + 1)
+one_more : (kind : CallKind) (history : List Call) (position before after : ℕ) (call : Call) (is_one : Bool) → slice_get history position ≡ Some call → is_one ≡ is_of kind call → (before ≡ count_by (is_of kind) (take position history)) × (before ≤ position) → after ≡ before + cond is_one 1 0 → (after ≡ count_by (is_of kind) (take (position + 1) history)) × (after ≤ position + 1)
 one_more kind history position before after call is_one found same here is =
     let front : count_by (is_of kind) (take (position + 1) history) ≡ count_by (is_of kind) (take position history) + cond (is_of kind call) 1 0 =
     ap (count_by (is_of kind)) (take_next history position call found) ∙ sum_by_push (λ c. cond (is_of kind c) 1 0) (take position history) call in
