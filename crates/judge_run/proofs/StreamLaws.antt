@@ -201,9 +201,9 @@ module _ (scope : Scope) (window least : ℕ) (known left : Option (List ℕ)) (
 
 -- what is not decided
 undecided_by : (calls : List Call) (found : Found) → IsFound calls found → was_decided found ≡ false → HasUndecided calls
-undecided_by calls (verdicts.Accepted certificate) is open = absurd cc
-undecided_by calls (verdicts.Rejected witness) is open = absurd cc
-undecided_by calls (verdicts.Undecided hits) is open = (hits.items, is.undecided)
+undecided_by calls (verdicts.Accepted certificate) is is_open = absurd cc
+undecided_by calls (verdicts.Rejected witness) is is_open = absurd cc
+undecided_by calls (verdicts.Undecided hits) is is_open = (hits.items, is.undecided)
 
 -- what was decided and not accepted is not acceptable
 unacceptable_by : WitnessExcludes → (calls : List Call) (found : Found) → IsFound calls found → was_accepted found ≡ false → was_decided found ≡ true → ¬ Acceptable calls

@@ -19,3 +19,7 @@ returns-in-Ok-judge_piece-clause-judged g c = λ known held.
 
 pub returns-in-Ok-judge_piece-clause-whole : goal.returns-in-Ok-judge_piece-clause-whole
 returns-in-Ok-judge_piece-clause-whole g c = some_map c.in-Ok-judge_piece.end _ _ (λ told is accepted. c.in-Ok.ensures.end (is accepted)) c.in-Ok-judge_piece.ensures.whole
+
+pub returns-in-Err-judge_piece-clause-fault : goal.returns-in-Err-judge_piece-clause-fault
+returns-in-Err-judge_piece-clause-fault g c = λ known held.
+    c.in-Err-judge_piece.ensures.fault known (left_of c.take_piece.new.lines (g.R.Read.remaining c.take_piece.new.reader)) c.take_piece.new.lines (c.in-Ok.ensures.taken known held)

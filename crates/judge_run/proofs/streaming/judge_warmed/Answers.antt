@@ -17,3 +17,13 @@ returns-then-is_accepted-clause-judged g c =
 pub returns-in-Ok-end_with-clause-judged : goal.returns-in-Ok-end_with-clause-judged
 returns-in-Ok-end_with-clause-judged g c = λ rule known left progress bound_is last ended counted.
     c.in-Ok-end_with.ensures.streamed rule known left progress last ended counted
+
+pub returns-then-is_accepted-clause-fault : goal.returns-then-is_accepted-clause-fault
+returns-then-is_accepted-clause-fault g c =
+    let unended : not c.args.over ≡ true = ap not c.if-not-over.true in
+    elim c.match-go_on.branch [
+      | in-Ok-go_on w ↦ rw w.result-is tt
+      | in-Err w ↦ rw w.result-is (λ rule known left progress last.
+          w.in-Err.ensures.fault rule known left progress
+          (subst (λ (more : Bool). IsPieceJudged rule more known left progress c.args.from_start c.args.stream.now) unended last))
+    ]

@@ -11,6 +11,7 @@ use Rattle.history_text.specs.Text.{Text, text_by}
 use Rattle.judge_run.specs.declared.scope.Scope.{Scope}
 use Rattle.judge_run.specs.Scopes.{text_scoped}
 use Rattle.judge_run.specs.Streams.{IsFirstOf, IsStreamFault, judged_of, piece_size}
+use Rattle.judge_run.proofs.CountLaws.{more_read}
 use Rattle.judge_run.proofs.TakingLaws.{as_many, before, before_fault, early_at, enough_judged, few_judged, first_told, full_judged, below, taken}
 use Rattle.judge_run.proofs.taking.take_piece.Goals as goal
 
@@ -103,3 +104,13 @@ returns-in-Ok-put_before-clause-taken g c = λ known held.
     (λ is_on. enough_judged scope piece judged stream.text.history least c.most_of-most.result is c.requires.held.1.no_calls (c.in-Ok.ensures.full is_on) c.most_of-most.ensures.least)
     (λ is_on. full_judged scope piece judged stream.text.history c.most_of-most.result (piece_size least stream.kept.history stream.waiting.history) is c.requires.held.1.no_calls (c.in-Ok.ensures.full is_on) c.most_of-most.ensures.size)
     c.in_default-first_before.ensures.none c.last_end-stream.ensures c.in-Ok-put_before.ensures
+
+pub returns-in-Ok-put_before-clause-more : goal.returns-in-Ok-put_before-clause-more
+returns-in-Ok-put_before-clause-more g c = λ is_on.
+    let stream = c.args.stream.now in
+    let left = left_of c.args.lines.now (g.R.Read.remaining c.args.reader.now) in
+    let rest = left_of c.take_calls.new.self (g.R.Read.remaining c.take_calls.new.reader) in
+    let piece = text_by c.take_calls.new.text.history c.take_calls.new.text.lines.items c.take_calls.new.text.callers in
+    let full = c.in-Ok.ensures.full is_on in
+    let some = c.most_of-most.ensures.some in
+    more_read left rest c.args.lines.now c.take_calls.new.self (judged_of stream) piece c.in-Ok.ensures.piece (omega (arith, full, some))
