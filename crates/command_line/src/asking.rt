@@ -6,7 +6,7 @@ use std::env;
 use std::io::ErrorKind;
 use std::rt::Env;
 
-/// What the words of the command line ask for.
+/// What the words of the command line ask for. No clause says which words the system gives; those of `parse_line` say what they mean.
 pub fn asked(rt: &(impl Env + AllocGlobal)) -> Result<Line, LineFault> {
     let words: Vec<String> = match env::args(rt) {
         Ok(words) => words.collect(rt.alloc())?,

@@ -12,7 +12,7 @@ use std::hash::BuildHasher;
 use std::marker::Model;
 
 /// The most callers of a text.
-pub const MAX_CALLERS: usize = 65536;
+const MAX_CALLERS: usize = 65536;
 
 /// The names of callers, numbered from 0 as they first appear.
 #[derive(Drop)]

@@ -26,14 +26,13 @@ mod whole_text;
 mod write_text_fault;
 
 pub use bad_line::BadLine;
-pub use callers::{Callers, MAX_CALLERS};
+pub use callers::Callers;
 pub use coding::word;
 pub use from_reader::read_text;
 pub use keeping::history_at;
 pub use key_word::key_bytes;
 pub use laws::{history_laws, reading_laws, word_laws};
 pub use line_cause::LineCause;
-pub use lines::MAX_TEXT_LINE_LEN;
 pub use read_text_fault::ReadTextFault;
 pub use reading::Reading;
 pub use share::Share;

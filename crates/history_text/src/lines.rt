@@ -8,7 +8,7 @@ use script_words::{LineRead, ReadAhead, ReadLineFault};
 use std::io::Read;
 
 /// The most bytes of a line of a text, without its line feed. The longest right line without its caller has some 7,000.
-pub const MAX_TEXT_LINE_LEN: usize = 8192;
+pub(crate) const MAX_TEXT_LINE_LEN: usize = 8192;
 
 /// Reads until a line can be taken.
 fn make_ready<R: Read>(

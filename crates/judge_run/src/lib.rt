@@ -86,6 +86,5 @@ pub use showing::answer_show;
 pub use shown::Shown;
 pub use streaming::judge_stream;
 pub use tell_fault::TellFault;
-pub use telling_found::verdict_text;
 pub use telling_rows::tell_found;
 pub use told_fault::ToldFault;

@@ -346,7 +346,8 @@ fn settle<R: AllocGlobal + Files, E: Write>(
 }
 
 /// Writes the trace in a file or of standard input as text to `out`, and answers the status that the program ends with.
-/// If a key is asked for, only its calls are written. What failed, and what to do about it, is written to `err`.
+/// If a key is asked for, only its calls are written. What failed, and what to do about it, is written to `err`. It has no clause, since
+/// it takes `out` and drops it, so that none can speak of it afterwards: those of `show_with` say what is written.
 pub fn run_show<R: AllocGlobal + Files + Input, O: Write + Drop, E: Write>(
     rt: &R,
     request: &ShowRequest,

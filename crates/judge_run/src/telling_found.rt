@@ -32,7 +32,7 @@ fn rejected_text(
 
 /// The line that tells what was found for the history of a text, with its line feed: `accepted N calls`, `rejected`, the kind
 /// of the reason, the key and the lines that it speaks of, or `undecided N hits`. The calls are those that were recorded.
-pub fn verdict_text<S: BuildHasher>(
+pub(crate) fn verdict_text<S: BuildHasher>(
     alloc: Global,
     judged: &JudgedText<S>,
 ) -> Result<String, AllocError>
