@@ -46,7 +46,7 @@ impl ProgramEnd {
 
     /// Writes the line of its ending, if that has one, and then lines that say what was wrong and what to do: after `file fault`
     /// that the system gave no random numbers, with its cause, or that the input or the output failed; after a bad line or a bad
-    /// configuration of a script what is taken. What `err` refuses is not told.
+    /// configuration of a script what is taken. What `err` refuses is not told, so no clause says what it holds.
     pub fn tell<E: Write>(&self, err: &mut E) {
         if let Some(message) = self.ending.message() {
             let _ = write!(err, "{message}\n");
