@@ -102,7 +102,7 @@ static void leave(worker *by, conn *of) {
 }
 
 void conn_close(worker *by, conn *of) {
-    tell(TELL_ALL, "<%d connection closed.", of->fd);
+    tell(TELL_STEP, "<%d connection closed.", of->fd);
     leave(by, of);
     free_buffer(&of->unread);
     free_buffer(&of->unsent);
@@ -128,7 +128,7 @@ bool conn_open(worker *by, int fd) {
     atomic_init(&of->last_moment, moment_now());
     atomic_fetch_add(&by->of->curr_conns, 1);
     show(by->of, fd);
-    tell(TELL_ALL, "<%d new client connection", fd);
+    tell(TELL_STEP, "<%d new client connection", fd);
     if (enter(by, of)) {
         atomic_fetch_add(&by->of->total_conns, 1);
         return true;

@@ -38,16 +38,16 @@ void remove_file(own_file *of, char option, const char *path) {
     if (of->name == NULL) return;
     bool is_there = fstatat(of->folder, of->name, &is, AT_SYMLINK_NOFOLLOW) == 0;
     if (is_there && !is_own(of, &is))
-        tell(TELL_FAULTS, "kangarood: -%c %s: it is not removed, since it is another's by now", option, path);
+        tell(TELL_FAULT, "-%c %s: it is not removed, since it is another's by now", option, path);
     else if (!is_there || unlinkat(of->folder, of->name, 0) != 0)
-        tell(TELL_FAULTS, "kangarood: -%c %s: %s", option, path, strerror(errno));
+        tell(TELL_FAULT, "-%c %s: %s", option, path, strerror(errno));
     of->name = NULL;
 }
 
 /* -------------------------------------------------------------------------------------------------------- the pid file */
 
 static bool refuse_pid_file(const char *path, const char *why) {
-    tell(TELL_ALWAYS, "kangarood: -P %s: %s", path, why);
+    tell(TELL_ERROR, "-P %s: %s", path, why);
     return false;
 }
 

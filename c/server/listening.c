@@ -45,12 +45,12 @@ static bool is_listening_stream(int fd) {
 
 static bool take_over(server *of, int count) {
     if (count > MOST_LISTENERS) {
-        tell(TELL_ALWAYS, "kangarood: systemd handed %d sockets over; at most %d are served", count, MOST_LISTENERS);
+        tell(TELL_ERROR, "systemd handed %d sockets over; at most %d are served", count, MOST_LISTENERS);
         return false;
     }
     for (int fd = FIRST_HANDED_OVER; fd < FIRST_HANDED_OVER + count; fd++) {
         if (!is_listening_stream(fd)) {
-            tell(TELL_ALWAYS, "kangarood: descriptor %d that systemd handed over is no listening stream socket: use "
+            tell(TELL_ERROR, "descriptor %d that systemd handed over is no listening stream socket: use "
                               "ListenStream= and Accept=no", fd);
             return false;
         }
@@ -85,7 +85,7 @@ static bool address_of_file(const char *path, struct sockaddr_un *to) {
         strcpy(to->sun_path, path);
         return true;
     }
-    tell(TELL_ALWAYS, "kangarood: -s %s: the path has more than %zu bytes", path, sizeof to->sun_path - 1);
+    tell(TELL_ERROR, "-s %s: the path has more than %zu bytes", path, sizeof to->sun_path - 1);
     return false;
 }
 
@@ -106,9 +106,9 @@ static bool is_free(const struct sockaddr_un *address, bool *is_left) {
     int cause = *is_left ? cause_against_connecting(address) : ENOENT;
     if (cause == ECONNREFUSED || cause == ENOENT) return true;
     if (cause == 0 || cause == EAGAIN)
-        tell(TELL_ALWAYS, "kangarood: -s %s: another server listens there; end it, or give another file", path);
+        tell(TELL_ERROR, "-s %s: another server listens there; end it, or give another file", path);
     else
-        tell(TELL_ALWAYS, "kangarood: -s %s: nobody knows whether a server has this socket: %s; remove it, or give another file",
+        tell(TELL_ERROR, "-s %s: nobody knows whether a server has this socket: %s; remove it, or give another file",
              path, strerror(cause));
     return false;
 }
@@ -136,7 +136,7 @@ static bool listen_on_file(server *of, const struct sockaddr_un *address) {
     bool is_left = false;
     if (!is_free(address, &is_left)) return false;
     if (make_socket_file(of, address, is_left)) return true;
-    tell(TELL_ALWAYS, "kangarood: -s %s: %s", address->sun_path, strerror(errno));
+    tell(TELL_ERROR, "-s %s: %s", address->sun_path, strerror(errno));
     return false;
 }
 
@@ -189,12 +189,12 @@ static bool listen_on_host(server *of, const char *word) {
     struct addrinfo hints = {.ai_flags = AI_PASSIVE | AI_NUMERICSERV, .ai_socktype = SOCK_STREAM}, *list = NULL;
     char host[HOST_BYTES], port[PORT_BYTES];
     if (!part_address(&of->settings, word, host, port)) {
-        tell(TELL_ALWAYS, "kangarood: -l %s: give HOST, HOST:PORT or [HOST]:PORT", word);
+        tell(TELL_ERROR, "-l %s: give HOST, HOST:PORT or [HOST]:PORT", word);
         return false;
     }
     int cause = getaddrinfo(host, port, &hints, &list);
     if (cause != 0) {
-        tell(TELL_ALWAYS, "kangarood: -l %s: %s", word, gai_strerror(cause));
+        tell(TELL_ERROR, "-l %s: %s", word, gai_strerror(cause));
         return false;
     }
     int before = of->listener_count, refused = 0;
@@ -202,7 +202,7 @@ static bool listen_on_host(server *of, const char *word) {
         if (!listen_on_address(of, at)) refused = errno;
     freeaddrinfo(list);
     if (of->listener_count > before && refused != EADDRINUSE) return true;
-    tell(TELL_ALWAYS, "kangarood: -l %s, port %s: %s", host, port, strerror(refused));
+    tell(TELL_ERROR, "-l %s, port %s: %s", host, port, strerror(refused));
     return false;
 }
 
@@ -232,7 +232,7 @@ void close_listeners(server *of) {
 static void refuse_client(server *of, int fd) {
     static const char text[] = "ERROR Too many open connections\r\n";
     atomic_fetch_add(&of->rejected_conns, 1);
-    tell(TELL_FAULTS, "kangarood: a client was refused: %llu are connected (-c)", (unsigned long long)of->settings.conns);
+    tell(TELL_FAULT, "a client was refused: %llu are connected (-c)", (unsigned long long)of->settings.conns);
     (void)!send(fd, text, sizeof text - 1, MSG_NOSIGNAL | MSG_DONTWAIT);
     close(fd);
 }
@@ -253,7 +253,7 @@ static void take_client(server *of, int fd) {
     if (atomic_load(&of->curr_conns) >= of->settings.conns) refuse_client(of, fd);
     else if (!conn_open(choose_worker(of), fd)) {
         atomic_fetch_add(&of->rejected_conns, 1);
-        tell(TELL_FAULTS, "kangarood: a client was refused: %s", strerror(errno));
+        tell(TELL_FAULT, "a client was refused: %s", strerror(errno));
     }
 }
 
@@ -269,7 +269,7 @@ static void refuse_by_spare(server *of, int listener) {
 static bool goes_on_after(server *of, int listener, int cause) {
     if (cause == EAGAIN || cause == EWOULDBLOCK) return false;
     if (cause == EINTR || cause == ECONNABORTED || cause == EPROTO || cause == EPERM) return true;
-    tell(TELL_FAULTS, "kangarood: accept: %s", strerror(cause));
+    tell(TELL_FAULT, "accept: %s", strerror(cause));
     if (cause == EMFILE || cause == ENFILE) refuse_by_spare(of, listener);
     usleep(REFUSED_PAUSE_US); /* the next look at the socket tries again */
     return false;

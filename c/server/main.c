@@ -37,7 +37,7 @@ static bool raise_limit(const settings *of) {
     limit.rlim_cur = wanted;
     if (limit.rlim_max < wanted) limit.rlim_max = wanted; /* root may */
     if (setrlimit(RLIMIT_NOFILE, &limit) == 0) return true;
-    tell(TELL_ALWAYS, "kangarood: -c %llu: the system gives fewer descriptors than %llu: give a smaller -c, or raise the limit "
+    tell(TELL_ERROR, "-c %llu: the system gives fewer descriptors than %llu: give a smaller -c, or raise the limit "
                       "(ulimit -n, or LimitNOFILE= of systemd)", (unsigned long long)of->conns, (unsigned long long)wanted);
     return false;
 }
@@ -60,30 +60,34 @@ static bool become_daemon(run *of) {
     return setsid() >= 0;
 }
 
-/* Tells the process that waits how the start went. A daemon that serves lets go of the terminal, unless it is to tell. */
+/* Lets go of the terminal, but for a standard error that is a log. */
+static void leave_terminal(void) {
+    int null = open("/dev/null", O_RDWR | O_CLOEXEC);
+    for (int fd = 0; null >= 0 && fd <= 2; fd++)
+        if (fd != STDERR_FILENO || !has_log()) dup2(null, fd);
+    if (null > 2) close(null);
+}
+
+/* Tells the process that waits how the start went. A daemon that serves lets go of the terminal, unless it is to tell there. */
 static void tell_ready(run *of, unsigned char status) {
     if (of->ready == NO_FILE) return;
     wait_until_told();
-    if (status == ENDS_WELL && verbosity() == 0) {
-        int null = open("/dev/null", O_RDWR | O_CLOEXEC);
-        for (int fd = 0; null >= 0 && fd <= 2; fd++) dup2(null, fd);
-        if (null > 2) close(null);
-    }
+    if (status == ENDS_WELL && (verbosity() == 0 || has_log())) leave_terminal();
     (void)!write(of->ready, &status, 1);
     close(of->ready);
     of->ready = NO_FILE;
 }
 
-/* Has signals that end the server come by a descriptor. They are blocked before the first thread starts, so in all. */
+/* Has signals come by a descriptor: those that end the server, and SIGHUP. They are blocked before the first thread starts, so in all. */
 static bool open_signals(run *of) {
     sigset_t set;
     sigemptyset(&set);
     sigaddset(&set, SIGINT);
     sigaddset(&set, SIGTERM);
     sigaddset(&set, SIGUSR1);
+    sigaddset(&set, SIGHUP);
     pthread_sigmask(SIG_BLOCK, &set, NULL);
     signal(SIGPIPE, SIG_IGN);
-    signal(SIGHUP, SIG_IGN);
     of->signals = signalfd(-1, &set, SFD_CLOEXEC | SFD_NONBLOCK);
     return of->signals >= 0;
 }
@@ -98,13 +102,13 @@ static int find_user(run *of) {
     const char *name = of->server.settings.user;
     if (geteuid() != 0) return ENDS_WELL;
     if (name == NULL) {
-        tell(TELL_ALWAYS, "kangarood: -u: started by root, it has to be told whom to become: give -u NAME");
+        tell(TELL_ERROR, "-u: started by root, it has to be told whom to become: give -u NAME");
         return ENDS_BY_WORDS;
     }
     errno = 0;
     struct passwd *user = getpwnam(name);
     if (user == NULL) {
-        tell(TELL_ALWAYS, "kangarood: -u %s: %s", name, is_unknown(errno) ? "there is no such user" : strerror(errno));
+        tell(TELL_ERROR, "-u %s: %s", name, is_unknown(errno) ? "there is no such user" : strerror(errno));
         return ENDS_BY_USER;
     }
     of->user = user->pw_uid;
@@ -144,10 +148,10 @@ static void tell_no_cache(const server *of, kangaroo_status status, int cause) {
     uint32_t lanes = of->options.shards * of->options.lanes;
     const char *against = status == KANGAROO_SYSTEM ? find_refused_file(folder, lanes, cause, name) : NULL;
     if (against != NULL)
-        tell(TELL_ALWAYS, "kangarood: --folder %s: %s %s; remove it, or give a folder that only this user can write", folder,
+        tell(TELL_ERROR, "--folder %s: %s %s; remove it, or give a folder that only this user can write", folder,
              name, against);
     else
-        tell(TELL_ALWAYS, "kangarood: --folder %s: %s%s", folder, cause != 0 ? strerror(cause) : kangaroo_strerror(status),
+        tell(TELL_ERROR, "--folder %s: %s%s", folder, cause != 0 ? strerror(cause) : kangaroo_strerror(status),
              remedy_for(status, cause));
 }
 
@@ -159,7 +163,7 @@ static bool open_cache(server *of) {
 }
 
 static bool told(bool is_well, const char *what) {
-    if (!is_well) tell(TELL_ALWAYS, "kangarood: %s: %s", what, strerror(errno));
+    if (!is_well) tell(TELL_ERROR, "%s: %s", what, strerror(errno));
     return is_well;
 }
 
@@ -182,6 +186,16 @@ static bool open_cache_as_user(run *of) {
     return told(act_as_root(of), "-u") && is_open;
 }
 
+/* Opens the log as the user, who will open it anew. */
+static bool open_log_as_user(run *of) {
+    const char *path = of->server.settings.log;
+    if (path == NULL) return true;
+    if (!told(act_as_user(of), "-u")) return false;
+    const char *against = open_log(path);
+    if (against != NULL) tell(TELL_ERROR, "--log %s: %s", path, against);
+    return told(act_as_root(of), "-u") && against == NULL;
+}
+
 /* All that has to go well before clients are served, in order. What went wrong was told.
  *
  * What another server may have is touched last, and only by a start that goes well. First come ports, and sockets that were
@@ -194,11 +208,11 @@ static bool start(run *of) {
     start_clock();
     start_numbers(&it->numbers);
     it->started = moment_now();
-    return raise_limit(&it->settings) && open_listeners(it) &&
+    return open_log_as_user(of) && raise_limit(&it->settings) && open_listeners(it) &&
            (it->settings.is_daemon == 0 || told(become_daemon(of), "-d")) && told(open_signals(of), "signals") &&
            told(start_telling(), "standard error") && make_pid_file(&of->pid_file, pid_path) && open_cache_as_user(of) &&
-           open_socket_file(it) && told(start_workers(it), "-t") && told(watch_all(of), "epoll") &&
-           place_pid_file(&of->pid_file, pid_path) && told(become_user(of), "-u");
+           open_socket_file(it) && told(start_workers(it), "-t") &&
+           told(pin_workers(it), "--pin-threads") && told(watch_all(of), "epoll") && place_pid_file(&of->pid_file, pid_path) && told(become_user(of), "-u");
 }
 
 /* ----------------------------------------------------------------------------------------------------------------- stop */
@@ -212,11 +226,24 @@ static void stop(run *of) {
     remove_pid_file(&of->pid_file, it->settings.pid_file);
 }
 
+/* Opens the log anew, if there is one: somebody may have renamed the file. */
+static void open_log_anew(const run *of) {
+    const char *path = of->server.settings.log;
+    if (path == NULL) return;
+    const char *against = reopen_log(path);
+    if (against == NULL) tell(TELL_EVENT, "--log %s: opened anew", path);
+    else tell(TELL_NOTE, "--log %s: not opened anew, and the old file is gone on with: %s", path, against);
+}
+
 /* Takes a signal. True: the server is to end. */
 static bool take_signal(run *of) {
     struct signalfd_siginfo is;
     if (read(of->signals, &is, sizeof is) != (ssize_t)sizeof is) return false;
-    tell(TELL_FAULTS, "kangarood: ends by %s", strsignal((int)is.ssi_signo));
+    if (is.ssi_signo == SIGHUP) {
+        open_log_anew(of);
+        return false;
+    }
+    tell(TELL_EVENT, "ends by %s", strsignal((int)is.ssi_signo));
     return true;
 }
 
@@ -243,8 +270,9 @@ int main(int count, char **words) {
     bool is_started = start(&all);
     tell_ready(&all, is_started ? ENDS_WELL : ENDS_BY_SYSTEM);
     if (is_started) {
+        leave_errors_before();
         tell_systemd("READY=1");
-        tell(TELL_FAULTS, "kangarood: serves");
+        tell(TELL_EVENT, "serves");
         serve(&all);
         tell_systemd("STOPPING=1");
     }

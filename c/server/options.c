@@ -27,7 +27,7 @@ typedef struct served {
 } served;
 
 #define AT(field) offsetof(settings, field)
-enum { NO_LETTER = 256, FOLDER = NO_LETTER, FLASH, OBJECT_BYTES, ADMIT, THRESHOLD, BRING_BACK, UPKEEP_THREADS, SPARSE };
+enum { NO_LETTER = 256, FOLDER = NO_LETTER, FLASH, OBJECT_BYTES, ADMIT, THRESHOLD, BRING_BACK, UPKEEP_THREADS, SPARSE, PIN_THREADS, LOG_FILE, SLOW };
 static const served options_served[] = {
     {"listen", 'l', KIND_TEXTS, AT(listen), 0, 0, "HOST[:PORT],..", "addresses (127.0.0.1); 0.0.0.0 is every IPv4 one"},
     {"port", 'p', KIND_NUMBER, AT(port), 1, 65535, "N", "TCP port (11211)"},
@@ -48,6 +48,9 @@ static const served options_served[] = {
      "copy one in N hits on flash back into memory; 0: never (8)"},
     {"upkeep-threads", UPKEEP_THREADS, KIND_NUMBER, AT(upkeep_threads), 0, 16, "N", "threads that write to flash (1)"},
     {"sparse", SPARSE, KIND_FLAG, AT(is_sparse), 0, 0, NULL, "do not reserve the files' blocks"},
+    {"pin-threads", PIN_THREADS, KIND_FLAG, AT(pins_threads), 0, 0, NULL, "keep each thread that serves clients on a processor of its own"},
+    {"log", LOG_FILE, KIND_TEXT, AT(log), 0, 0, "FILE", "file for what goes to standard error; SIGHUP opens it anew"},
+    {"slow", SLOW, KIND_NUMBER, AT(slow_ms), 0, 3600000, "MS", "report requests that take longer, in milliseconds; 0: each (none)"},
     {"user", 'u', KIND_TEXT, AT(user), 0, 0, "NAME", "user to run as, required when started as root"},
     {"daemon", 'd', KIND_FLAG, AT(is_daemon), 0, 0, NULL, "run in the background, once clients are served"},
     {"pidfile", 'P', KIND_TEXT, AT(pid_file), 0, 0, "FILE", "file for the process's number"},
@@ -146,7 +149,7 @@ static void end_by_words(const char *format, ...) {
     va_start(rest, format);
     vsnprintf(text, sizeof text, format, rest);
     va_end(rest);
-    tell(TELL_ALWAYS, "kangarood: %s\nkangarood: --help lists the options", text);
+    tell(TELL_ERROR, "%s; --help lists the options", text);
     exit(ENDS_BY_WORDS);
 }
 
@@ -231,7 +234,7 @@ static bool has_name(const char *list, const char *name, bool *needs_value) {
 /* Takes what has this fate, or ends the program. */
 static void meet(fate its, const char *written, const char *said) {
     if (its == FATE_REFUSED) end_by_words("%s: %s", written, said);
-    if (its == FATE_LINE) tell(TELL_ALWAYS, "kangarood: %s: taken, and without effect: %s", written, said);
+    if (its == FATE_LINE) tell(TELL_NOTE, "%s: taken, and without effect: %s", written, said);
 }
 
 /* memcached's -I has at least 1k. One that asks for values that are not stored is not taken. */
@@ -282,7 +285,7 @@ static char *joined(char *list, const char *more) {
     size_t length = list == NULL ? 0 : strlen(list);
     char *both = realloc(list, length + strlen(more) + 2);
     if (both == NULL) {
-        tell(TELL_ALWAYS, "kangarood: -l %s: %s", more, strerror(errno));
+        tell(TELL_ERROR, "-l %s: %s", more, strerror(errno));
         exit(ENDS_BY_SYSTEM);
     }
     if (length != 0) both[length++] = ',';
@@ -345,6 +348,11 @@ static void take_option(int letter, char *value, settings *to) {
 
 /* -l and -p with -s are taken without effect, as memcached takes them. */
 static void check_pairs(const settings *of) {
+    uint64_t most = of->pins_threads != 0 ? processors() : UINT64_MAX;
+    if (most == 0) end_by_words("--pin-threads: nobody knows which processors there are: %s; leave it out", strerror(errno));
+    if (of->threads > most)
+        end_by_words("--pin-threads: %llu threads (-t), and %llu processors that this process may use: give -t %llu or less",
+                     (unsigned long long)of->threads, (unsigned long long)most, (unsigned long long)most);
     if (of->socket_path != NULL && (of->listen != NULL || of->port != 0))
         meet(FATE_LINE, "-l, -p", "with -s a Unix socket stands in place of TCP");
     if (of->socket_path == NULL && of->socket_mode != UINT64_MAX)
@@ -355,7 +363,8 @@ void read_words(int count, char **words, settings *to) {
     known all;
     know_all(&all);
     *to = (settings){.folder = ".", .socket_mode = UINT64_MAX, .backlog = 1024, .threads = 4, .conns = 1024, .memory_mib = 64,
-                     .flash_bytes = (uint64_t)1 << 30, .object_bytes = 100, .admit = 65536, .bring_back = 8, .upkeep_threads = 1};
+                     .flash_bytes = (uint64_t)1 << 30, .object_bytes = 100, .admit = 65536, .bring_back = 8, .upkeep_threads = 1,
+                     .slow_ms = NEVER_SLOW};
     opterr = 0;
     for (int letter; (letter = getopt_long(count, words, all.letters, all.longs, NULL)) != -1;) {
         const char *word = words[optind - 1];
@@ -369,7 +378,7 @@ void read_words(int count, char **words, settings *to) {
     if (to->port == 0) to->port = 11211;
     if (to->socket_mode == UINT64_MAX) to->socket_mode = 0700;
     if (to->listen == NULL) to->listen = "127.0.0.1";
-    set_verbosity(to->verbosity > TELL_ALL ? TELL_ALL : (unsigned)to->verbosity);
+    set_verbosity(to->verbosity > VERBOSITY_MOST ? VERBOSITY_MOST : (unsigned)to->verbosity);
 }
 
 /* ---------------------------------------------------------------------------------------------- options of the cache */

@@ -1,10 +1,12 @@
 /* server.h: what the files of kangarood share. kangarood serves a cache by memcached's text protocol. What a client's bytes
  * ask for, what that does to a lane, and what is answered, is decided by the proved part (session.h). Here are sockets,
  * threads, locks, options and counts. Each file uses only those above it in this list:
+ *   logs.c       the file of --log
  *   telling.c    messages, and what systemd is told
  *   files.c      the files beside those of the cache: the socket's and the pid file
  *   options.c    the command line
  *   buffers.c    bytes that wait
+ *   slow.c       requests that took long
  *   steps.c      one step of a session, in a hold of its key's lane; cas numbers, and flush_all
  *   stats.c      counts, and the lines of stats
  *   conns.c      a connection: reading, answering, waiting
@@ -17,6 +19,7 @@
 #include "../inside.h"
 #include "../session.h"
 #include <limits.h>
+#include <stdarg.h>
 #include <sys/types.h>
 
 #define SERVED_VERSION "1.6.18" /* of memcached: in stats, and as the sessions answer version */
@@ -39,10 +42,34 @@ typedef struct server server;
 typedef struct worker worker;
 typedef struct conn conn;
 
+/* ----------------------------------------------------------------------------------------------------------- logs.c */
+
+enum { LINE_BYTES = 1024 };
+
+/* Has standard error be a file, in which each line has a time and a level. Before another thread runs. NULL, or why not. */
+const char *open_log(const char *path);
+bool has_log(void);
+/* Opens the file anew by its path, which may lead to another one by now. NULL, or why not: then the old one is gone on with. */
+const char *reopen_log(const char *path);
+/* What standard error was before there was a log, or NO_FILE: until the server serves, it is told there too what ends it. */
+int errors_before(void);
+void leave_errors_before(void);
+/* Puts a line together, with its line feed: one that is too long is cut. Gives its length. */
+size_t spell_line(char to[LINE_BYTES], const char *head, const char *format, va_list rest) __attribute__((format(printf, 3, 0)));
+/* Writes a line of the log. Lines that the system does not take are counted, and the count is written once it takes some. */
+void write_log(const char *level, const char *format, va_list rest) __attribute__((format(printf, 2, 0)));
+
 /* -------------------------------------------------------------------------------------------------------- telling.c */
 
-/* How much is told: 0 what ends the program, 1 what went wrong, 2 each connection and step. */
-enum { TELL_ALWAYS = 0, TELL_FAULTS = 1, TELL_ALL = 2 };
+/* What is told, and from which verbosity on. Each kind has a level, by which a line is told from others. */
+typedef enum tell_kind {
+    TELL_ERROR, /* an error: what ends the program */
+    TELL_NOTE,  /* a warning that is always told */
+    TELL_FAULT, /* a warning, with -v: what went wrong with a client */
+    TELL_EVENT, /* info, with -v */
+    TELL_STEP   /* debug, with -vv: each connection and step */
+} tell_kind;
+enum { VERBOSITY_MOST = 2 };
 
 void set_verbosity(unsigned level);
 unsigned verbosity(void);
@@ -51,11 +78,11 @@ unsigned verbosity(void);
 bool start_telling(void);
 /* Waits half a second at most until what was told is written. */
 void wait_until_told(void);
-/* Tells a line on standard error, if so much is to be told. Lines for which there is no room, since nobody reads, are counted,
- * and the count is told. */
-void tell(unsigned level, const char *format, ...) __attribute__((format(printf, 2, 3)));
+/* Tells a line on standard error or in the log, if so much is to be told. Lines for which there is no room, since nobody reads, are
+ * counted, and the count is told. */
+void tell(tell_kind kind, const char *format, ...) __attribute__((format(printf, 2, 3)));
 /* Tells the first line of some bytes of a client, with what cannot be printed as dots. */
-void tell_bytes(unsigned level, int fd, char arrow, const void *bytes, size_t length);
+void tell_bytes(tell_kind kind, int fd, char arrow, const void *bytes, size_t length);
 /* Tells systemd, if it started the program and wants to know. */
 void tell_systemd(const char *state);
 
@@ -92,11 +119,14 @@ void remove_pid_file(pid_file *of, const char *path);
 
 /* -------------------------------------------------------------------------------------------------------- options.c */
 
+#define NEVER_SLOW UINT64_MAX
+
 typedef struct settings {
-    const char *listen, *socket_path, *folder, *pid_file, *user;
+    const char *listen, *socket_path, *folder, *pid_file, *user, *log;
     uint64_t port, socket_mode, backlog, threads, conns, memory_mib, idle_seconds;
     uint64_t flash_bytes, object_bytes, admit, threshold, bring_back, upkeep_threads;
-    uint64_t verbosity, is_daemon, is_sparse, no_flush, may_shut_down; /* flags: how often they were given */
+    uint64_t slow_ms; /* requests that took longer are told; NEVER_SLOW: none is */
+    uint64_t verbosity, is_daemon, is_sparse, no_flush, may_shut_down, pins_threads; /* flags: how often they were given */
 } settings;
 
 /* Reads the command line. Ends the program if it is wrong, or asks for help or the version. */
@@ -120,6 +150,39 @@ bool append_bytes(buffer *to, const void *bytes, size_t length);
 void drop_bytes(buffer *of, size_t bytes);
 /* Gives the memory of a buffer back. */
 void free_buffer(buffer *of);
+
+/* ----------------------------------------------------------------------------------------------------------- slow.c */
+
+/* Counters of a lane that are watched: hits by tier, and pages read. */
+enum { PAGES_READ = 3, LOOKED_AT = 4 };
+
+/* A step whose time is taken. All zeros: it is not. */
+typedef struct timing {
+    uint64_t began;           /* nanoseconds of a clock that nobody sets */
+    uint64_t counts[LOOKED_AT]; /* what its lane had counted before it; after it, what it added */
+} timing;
+
+/* What a step was that may have taken long. */
+typedef struct timed_step {
+    const timing *timing;
+    const ks_wanted *wanted;
+    const ks_done *done;
+    const uint8_t *bytes;
+} timed_step;
+
+/* What a worker knows of slow requests. */
+typedef struct slow_lines {
+    uint64_t second, untold; /* the second of its last line; requests since that are only counted */
+    unsigned told;           /* lines in that second */
+} slow_lines;
+
+/* Takes the time at which a step begins, if the settings ask for that. */
+void begin_timing(timing *it, const settings *of);
+/* Looks at the lane of a step that is watched, in the hold in which the step is made: before it and after it. */
+void look_before(timing *it, kl_lane *lane);
+void look_after(timing *it, kl_lane *lane);
+/* Tells of the step if it is watched, was a request's and took longer than the settings allow, some times in each second. */
+void end_timing(worker *by, const timed_step *what);
 
 /* ---------------------------------------------------------------------------------------------------------- steps.c */
 
@@ -232,10 +295,15 @@ struct worker {
     uint8_t *in;    /* room for what a client left and one read more */
     buffer answers;
     counts counts;
+    slow_lines slow;
 };
 
+/* How many processors this process may use; 0: the system does not tell, and errno says why. */
+uint64_t processors(void);
 /* Starts all workers. False: the system refused; errno says why. */
 bool start_workers(server *of);
+/* Keeps each worker on a processor of its own, if the settings ask for that. False: the system refused; errno says why. */
+bool pin_workers(server *of);
 /* Ends all workers, and their connections. */
 void stop_workers(server *of);
 

@@ -69,6 +69,7 @@ typedef struct step {
     uint32_t refuses; /* 1: what is wanted is not done, and the answer says so */
     ks_done done;
     bool is_part; /* it was a part of an answer, and its request is still to be taken */
+    timing timing;
 } step;
 
 /* Where a step answers: after the other answers. There is room, KS_MOST_ANSWER bytes: conns.c sees to it. */
@@ -97,9 +98,11 @@ static void step_in_lane(step *it) {
     pthread_mutex_lock(&lane->lock);
     ks_begin_turn(&lane->lane, &it->wanted, now, &turn);
     make_whole(&it->by->of->numbers, &turn);
+    look_before(&it->timing, &lane->lane);
     is_due = ks_lane_step(&it->of->session, &lane->lane, &turn, it->bytes, it->length, place_of_answer(it), KS_MOST_ANSWER,
                           &it->done);
     end_if_refused(is_due);
+    look_after(&it->timing, &lane->lane);
     if (is_due != 0) hand_over(cache, it->wanted.place.lane);
     pthread_mutex_unlock(&lane->lock);
 }
@@ -138,7 +141,7 @@ static bool do_wanted(step *it) {
     case KS_FLUSH: step_with_flush(it); break;
     case KS_STATS: if (!step_with_stats(it)) return false; break;
     case KS_VERBOSE:
-        set_verbosity(it->wanted.argument > TELL_ALL ? TELL_ALL : it->wanted.argument);
+        set_verbosity(it->wanted.argument > VERBOSITY_MOST ? VERBOSITY_MOST : it->wanted.argument);
         step_without_lane(it);
         break;
     case KS_SHUTDOWN: step_with_shutdown(it); break;
@@ -148,20 +151,22 @@ static bool do_wanted(step *it) {
 }
 
 static void tell_step(const step *it) {
-    tell_bytes(TELL_ALL, it->of->fd, '<', it->bytes, it->done.taken);
-    if (it->done.answered != 0) tell_bytes(TELL_ALL, it->of->fd, '>', place_of_answer(it), it->done.answered);
+    tell_bytes(TELL_STEP, it->of->fd, '<', it->bytes, it->done.taken);
+    if (it->done.answered != 0) tell_bytes(TELL_STEP, it->of->fd, '>', place_of_answer(it), it->done.answered);
 }
 
 step_end make_step(worker *by, conn *of, const uint8_t *bytes, size_t length, size_t *taken) {
     const kangaroo_cache *cache = by->of->cache;
     step it = {.by = by, .of = of, .bytes = bytes, .length = length};
     *taken = 0;
+    begin_timing(&it.timing, &by->of->settings);
     ks_want(&of->session, &cache->seed, cache->lane_count, bytes, length, &it.wanted);
     if (it.wanted.wants == KS_MORE) return STEP_NEEDS_MORE;
     if (it.wanted.wants == KS_CLOSE) return STEP_ENDS;
     if (!do_wanted(&it)) return STEP_ENDS;
     if (it.is_part) return by->looks_left == 0 ? STEP_ENDS_TURN : STEP_WENT_ON;
-    if (verbosity() >= TELL_ALL) tell_step(&it);
+    if (verbosity() >= VERBOSITY_MOST) tell_step(&it);
+    end_timing(by, &(timed_step){&it.timing, &it.wanted, &it.done, bytes});
     count_step(by, &it.done);
     by->answers.length += it.done.answered;
     *taken = it.done.taken;

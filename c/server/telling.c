@@ -2,7 +2,6 @@
 #define _GNU_SOURCE
 #include "server.h"
 #include <poll.h>
-#include <stdarg.h>
 #include <stdio.h>
 #include <stdlib.h>
 #include <string.h>
@@ -13,13 +12,20 @@
 #include <unistd.h>
 
 enum {
-    LINE_BYTES = 1024,
+    HEAD_BYTES = 32,
     SHOWN_BYTES = 100,
     WAITING_BYTES = 1 << 18,
     AT_ONCE_BYTES = 4096, /* what a pipe takes whole or not at all */
     STACK_BYTES = 1 << 17,
     LAST_WAIT_MS = 500
 };
+
+/* The level of each kind of line, and the verbosity from which it is told. */
+static const struct {
+    const char *level;
+    unsigned from;
+} kinds[] = {[TELL_ERROR] = {"error", 0}, [TELL_NOTE] = {"warning", 0}, [TELL_FAULT] = {"warning", 1}, [TELL_EVENT] = {"info", 1},
+             [TELL_STEP] = {"debug", VERBOSITY_MOST}};
 
 static atomic_uint level_now;
 
@@ -59,7 +65,7 @@ static bool put_line(const char *line, size_t length) {
 static void put_lost(void) {
     char line[LINE_BYTES];
     if (waiting.lost == 0) return;
-    int length = snprintf(line, sizeof line, "kangarood: %llu lines were not written: nobody read them in time\n",
+    int length = snprintf(line, sizeof line, "kangarood: warning: %llu lines were not written: nobody read them in time\n",
                           (unsigned long long)waiting.lost);
     if (length > 0 && put_line(line, (size_t)length)) waiting.lost = 0;
 }
@@ -166,31 +172,50 @@ void wait_until_told(void) {
 
 /* --------------------------------------------------------------------------------------------------------------- telling */
 
-void tell(unsigned level, const char *format, ...) {
-    char line[LINE_BYTES];
-    va_list rest;
-    if (verbosity() < level) return;
-    va_start(rest, format);
-    int length = vsnprintf(line, sizeof line - 1, format, rest);
-    va_end(rest);
-    if (length < 0) return;
-    if ((size_t)length > sizeof line - 2) length = (int)sizeof line - 2;
-    line[length] = '\n';
-    if (atomic_load_explicit(&waiting.has_writer, memory_order_acquire)) hand_over_line(line, (size_t)length + 1);
-    else (void)!write(STDERR_FILENO, line, (size_t)length + 1);
+/* Puts a line of standard error together. */
+static size_t spell_told(char line[LINE_BYTES], tell_kind kind, const char *format, va_list rest) {
+    char head[HEAD_BYTES];
+    snprintf(head, sizeof head, "kangarood: %s: ", kinds[kind].level);
+    return spell_line(line, head, format, rest);
 }
 
-void tell_bytes(unsigned level, int fd, char arrow, const void *bytes, size_t length) {
+static void tell_errors(tell_kind kind, const char *format, va_list rest) {
+    char line[LINE_BYTES];
+    size_t length = spell_told(line, kind, format, rest);
+    if (atomic_load_explicit(&waiting.has_writer, memory_order_acquire)) hand_over_line(line, length);
+    else (void)!write(STDERR_FILENO, line, length);
+}
+
+/* Whoever starts the program is told what ends it, also if there is a log. */
+static void tell_who_starts(tell_kind kind, const char *format, va_list rest) {
+    char line[LINE_BYTES];
+    if (kind == TELL_ERROR && errors_before() >= 0) (void)!write(errors_before(), line, spell_told(line, kind, format, rest));
+}
+
+void tell(tell_kind kind, const char *format, ...) {
+    va_list rest, again;
+    if (verbosity() < kinds[kind].from) return;
+    va_start(rest, format);
+    va_copy(again, rest);
+    if (has_log()) {
+        write_log(kinds[kind].level, format, rest);
+        tell_who_starts(kind, format, again);
+    } else tell_errors(kind, format, rest);
+    va_end(again);
+    va_end(rest);
+}
+
+void tell_bytes(tell_kind kind, int fd, char arrow, const void *bytes, size_t length) {
     char printed[SHOWN_BYTES + 1];
     const unsigned char *from = bytes;
     size_t count = 0;
-    if (verbosity() < level) return;
+    if (verbosity() < kinds[kind].from) return;
     while (count < length && count < SHOWN_BYTES && from[count] != '\r' && from[count] != '\n') {
         printed[count] = from[count] >= ' ' && from[count] <= '~' ? (char)from[count] : '.';
         count++;
     }
     printed[count] = 0;
-    tell(level, "%c%d %s%s", arrow, fd, printed, count == SHOWN_BYTES ? ".." : "");
+    tell(kind, "%c%d %s%s", arrow, fd, printed, count == SHOWN_BYTES ? ".." : "");
 }
 
 void tell_systemd(const char *state) {
@@ -204,6 +229,6 @@ void tell_systemd(const char *state) {
     if (fd < 0) return;
     socklen_t bytes = (socklen_t)(offsetof(struct sockaddr_un, sun_path) + length);
     if (sendto(fd, state, strlen(state), MSG_NOSIGNAL, (struct sockaddr *)&to, bytes) < 0)
-        tell(TELL_FAULTS, "kangarood: systemd was not told %s: %s", state, strerror(errno));
+        tell(TELL_FAULT, "systemd was not told %s: %s", state, strerror(errno));
     close(fd);
 }

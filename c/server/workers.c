@@ -1,6 +1,7 @@
 /* The threads that serve connections: each has an epoll loop, and its connections for good. */
 #define _GNU_SOURCE
 #include "server.h"
+#include <sched.h>
 #include <stdlib.h>
 #include <string.h>
 #include <sys/epoll.h>
@@ -61,7 +62,7 @@ static void *work(void *of) {
     return NULL;
 }
 
-/* -------------------------------------------------------------------------------------------------------- start and stop */
+/* ----------------------------------------------------------------------------------------------------------------- start */
 
 /* What a worker has before its thread runs. */
 static bool make_worker(worker *by, server *of) {
@@ -95,6 +96,35 @@ bool start_workers(server *of) {
         if (!start_worker(&of->workers[i], of)) return false;
     return true;
 }
+
+/* ----------------------------------------------------------------------------------------------------------- processors */
+
+uint64_t processors(void) {
+    cpu_set_t all;
+    return sched_getaffinity(0, sizeof all, &all) == 0 ? (uint64_t)CPU_COUNT(&all) : 0;
+}
+
+/* Keeps a thread on one of some processors, by its place among them. Gives why not, or 0. */
+static int keep_on(pthread_t thread, const cpu_set_t *all, uint64_t place) {
+    cpu_set_t one;
+    CPU_ZERO(&one);
+    for (size_t at = 0; at < CPU_SETSIZE; at++)
+        if (CPU_ISSET(at, all) && place-- == 0) CPU_SET(at, &one);
+    return pthread_setaffinity_np(thread, sizeof one, &one); /* of none, the system refuses it */
+}
+
+bool pin_workers(server *of) {
+    cpu_set_t all;
+    if (of->settings.pins_threads == 0) return true;
+    if (sched_getaffinity(0, sizeof all, &all) != 0) return false;
+    for (uint64_t i = 0; i < of->settings.threads; i++) {
+        errno = keep_on(of->workers[i].thread, &all, i);
+        if (errno != 0) return false;
+    }
+    return true;
+}
+
+/* ------------------------------------------------------------------------------------------------------------------ stop */
 
 static void stop_worker(worker *by) {
     uint64_t one = 1;

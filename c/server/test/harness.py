@@ -13,7 +13,7 @@ import tempfile
 import time
 
 TESTS = []
-PROGRAM = {"kangarood": None, "refuser": None, "stepper": None, "narrow": None, "orders": None}
+PROGRAM = {"kangarood": None, "refuser": None, "stepper": None, "narrow": None, "delayer": None, "orders": None}
 IS_QUICK = os.environ.get("QUICK", "") not in ("", "0")
 PATIENCE = 30
 MORE = 16 if os.environ.get("SANITIZED") else 1  # a sanitizer takes memory of its own

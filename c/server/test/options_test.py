@@ -18,6 +18,10 @@ WRONG = [
     (["--object-bytes", "2304"], "--object-bytes 2304: give a number from 1 to 2303"),
     (["--admit", "65537"], "--admit 65537: give a number from 0 to 65536"),
     (["--threshold", "33"], "--threshold 33: give a number from 0 to 32"),
+    (["--slow", "3600001"], "--slow 3600001: give a number from 0 to 3600000"),
+    (["--slow=1s"], "--slow 1s: give a number from 0 to 3600000"),
+    (["--log", ""], "--log: its value is empty; give FILE"),
+    (["--pin-threads=1"], "--pin-threads=1: there is no such option, or it takes no value"),
     (["--upkeep-threads", "17"], "--upkeep-threads 17: give a number from 0 to 16"),
     (["-o", "lru_crawlers"], "-o lru_crawlers: there is no such word; -o takes idle_timeout=N, and memcached's words"),
     (["-o", "modern,,no_modern"], "-o : there is no such word; -o takes idle_timeout=N, and memcached's words"),
@@ -59,8 +63,8 @@ def wrong_words():
     for words, wanted in WRONG:
         status, said = run_words(*words)
         equal(status, 64, f"the status of {words}, which said {said!r}")
-        expect(said.startswith(f"kangarood: {wanted}"), f"{words} said {said!r}, and not {wanted!r}")
-        expect(said.endswith("kangarood: --help lists the options\n"), f"{words} said {said!r}")
+        expect(said.startswith(f"kangarood: error: {wanted}"), f"{words} said {said!r}, and not {wanted!r}")
+        expect(said.endswith("; --help lists the options\n"), f"{words} said {said!r}")
 
 
 @shows("too little memory for the flash: the least -m that is enough is named, and is enough")
@@ -134,7 +138,7 @@ def said_of_taken(*words):
     with tempfile.TemporaryDirectory() as folder:
         root = ["-u", "root"] if os.geteuid() == 0 else []
         status, said = run_words(*words, "--folder", f"{folder}/none", "-s", f"{folder}/s", *root)
-        end = f"kangarood: --folder {folder}/none: No such file or directory\n"
+        end = f"kangarood: error: --folder {folder}/none: No such file or directory\n"
         expect(status == 71 and said.endswith(end), f"{words}: status {status}, and it said {said!r}")
         return said[: -len(end)]
 
@@ -142,9 +146,9 @@ def said_of_taken(*words):
 @shows(f"{len(TAKEN)} options of memcached's that have no meaning here are taken, each with a line that says why")
 def taken_with_line():
     for words, name, why in TAKEN:
-        equal(said_of_taken(*words), f"kangarood: {name}: taken, and without effect: {why}\n", f"what {words} say")
+        equal(said_of_taken(*words), f"kangarood: warning: {name}: taken, and without effect: {why}\n", f"what {words} say")
     both = said_of_taken("-f", "2", "-o", "no_modern,idle_timeout=5,lru_maintainer", "-k")
-    names = [line.split(": ")[1] for line in both.splitlines()]
+    names = [line.split(": ")[2] for line in both.splitlines()]
     equal(names, ["-f, --slab-growth-factor", "-o no_modern", "-o lru_maintainer", "-k, --lock-memory"], "a line each")
 
 

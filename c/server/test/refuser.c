@@ -5,6 +5,8 @@
 #include <dlfcn.h>
 #include <errno.h>
 #include <fcntl.h>
+#include <pthread.h>
+#include <sched.h>
 #include <stdatomic.h>
 #include <stdbool.h>
 #include <stdlib.h>
@@ -81,6 +83,13 @@ REFUSABLE(int, epoll_create1, EMFILE, (int flags), (flags))
 REFUSABLE(int, eventfd, EMFILE, (unsigned first, int flags), (first, flags))
 REFUSABLE(int, listen, EADDRINUSE, (int fd, int backlog), (fd, backlog))
 REFUSABLE(int, socket, EMFILE, (int domain, int type, int protocol), (domain, type, protocol))
+
+/* This one answers the cause itself. */
+int pthread_setaffinity_np(pthread_t thread, size_t bytes, const cpu_set_t *set) {
+    static int (*real)(pthread_t, size_t, const cpu_set_t *);
+    if (real == NULL) *(void **)&real = dlsym(RTLD_NEXT, "pthread_setaffinity_np");
+    return refuses("pthread_setaffinity_np") ? EPERM : real(thread, bytes, set);
+}
 
 int signalfd(int fd, const sigset_t *set, int flags) {
     static int (*real)(int, const sigset_t *, int);

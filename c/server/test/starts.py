@@ -115,7 +115,7 @@ def refused_starts():
     refused_start("-s", "/tmp/" + "x" * 120, has_socket=False, wanted="the path has more than 107 bytes")
     refused_start("-s", "/nowhere/socket", has_socket=False, wanted="-s /nowhere/socket: No such file or directory")
     long = "/" + "x" * 3000
-    refused_start("--folder", long, wanted=f"kangarood: --folder {long}"[:1022] + "\n")
+    refused_start("--folder", long, wanted=f"kangarood: error: --folder {long}"[:1022] + "\n")
     refused_start("-P", "/nowhere/pid", wanted="-P /nowhere/pid: No such file or directory")
     refused_start("-l", "[::1", has_socket=False, wanted="-l [::1: give HOST, HOST:PORT or [HOST]:PORT")
     refused_start("-l", "256.1.1.1", has_socket=False, wanted="-l 256.1.1.1: ")
@@ -169,7 +169,7 @@ def users():
     status, said = run_words("-s", "/tmp/kangarood-user")
     expect(status == 64 and "-u: started by root, it has to be told whom to become: give -u NAME" in said, said)
     status, said = run_words("-u", "nobody-of-this-name", "-s", "/tmp/kangarood-user")
-    equal((status, said), (77, "kangarood: -u nobody-of-this-name: there is no such user\n"), "an unknown user")
+    equal((status, said), (77, "kangarood: error: -u nobody-of-this-name: there is no such user\n"), "an unknown user")
     it = Server(wait=False)
     it.remove()
     os.makedirs(it.folder)
@@ -259,6 +259,6 @@ def verbose():
         expect("VALUE" not in said, "after verbosity 0 nothing more is told")
         lengths = (99, 101, 102, 250)
         client.ask(b"verbosity 2\r\n" + b"".join(b"get " + b"k" * it + b"\r\n" for it in lengths), b"OK\r\n" + b"END\r\n" * len(lengths))
-        told = [line.split(" ", 1)[1] for line in it.said().splitlines() if "kkk" in line]
+        told = [line.split(" ", 3)[3] for line in it.said().splitlines() if "kkk" in line]
         equal(told, ["k" * 99] + ["k" * 100 + ".."] * 3, "keys that are told, of which 100 bytes are")
         client.ask(b"get " + b"k " * 60 + b"\r\nmn\r\n", b"END\r\nMN\r\n")

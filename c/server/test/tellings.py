@@ -8,8 +8,8 @@ import threading
 from harness import Server, equal, expect, shows, wait_for
 
 ANSWER = b"VALUE a 0 1\r\nx\r\nEND\r\n"
-LINE = re.compile(rb"(kangarood: .*|[<>]\d+ .*)")
-LOST = re.compile(rb"kangarood: (\d+) lines were not written: nobody read them in time")
+LINE = re.compile(rb"kangarood: (info: .*|warning: .*|debug: [<>]\d+ .*)")
+LOST = re.compile(rb"kangarood: warning: (\d+) lines were not written: nobody read them in time")
 
 
 def ends_of(kind):
@@ -55,7 +55,7 @@ def nobody_reads():
             text = take_lines(reads, LOST)
             lines = text.split(b"\n")
             expect(all(LINE.fullmatch(line) for line in lines[:-1]), f"whole lines, with {kind}")
-            told = len([line for line in lines if re.fullmatch(rb"<\d+ a", line)])
+            told = len([line for line in lines if re.fullmatch(rb"kangarood: debug: <\d+ a", line)])
             expect(1000 < told < 20_001 and int(LOST.search(text)[1]) > 1000, f"{told} gets were told, with {kind}")
             ask_for_lines(first, 20_000)
             equal(it.stop(), 0, f"the status, with {kind} that nobody reads")
@@ -77,7 +77,7 @@ def lost_in_their_place():
             client.ask(b"".join(asked), b"END\r\n" * 500)
         client.ask(b"verbosity 0\r\n", b"OK\r\n")
         text = take_lines(reads, LOST)
-        said = [line.partition(b" ")[2] for line in text[: LOST.search(text).start()].splitlines()]
+        said = [line.split(b" ", 3)[3] for line in text[: LOST.search(text).start()].splitlines()]
         said = said[said.index(b"get ") :]
         for at, line in enumerate(said):
             wanted = (b"get ", b"k%dxxx" % (at // 4), b"", b"END")[at % 4]
@@ -107,7 +107,7 @@ def somebody_reads():
             reader.join(10)
             asked = re.findall(rb"<\d+ k(\d+)\n", got[0])
             equal([int(number) for number in asked], list(range(1000)), f"the gets that were told, with {kind}")
-            expect(got[0].startswith(b"kangarood: serves\n") and b"kangarood: ends by Terminated\n" in got[0], got[0][-200:])
+            expect(got[0].startswith(b"kangarood: info: serves\n") and b"kangarood: info: ends by Terminated\n" in got[0], got[0][-200:])
         finally:
             it.remove()
             reader.join(10)
