@@ -131,7 +131,8 @@ def refused_log(path, wanted, *words):
     """Starts a server whose log is refused."""
     it = Server("--log", path, *words)
     try:
-        equal((it.is_ready, it.process.wait(PATIENCE)), (False, 71), f"it ends: {it.said()}")
+        expect(it.is_ready is False, f"it serves: {it.said()}")
+        equal(it.process.wait(PATIENCE), 71, "the status")
         equal(it.said(), f"kangarood: error: --log {path}: {wanted}\n", "what it said")
     finally:
         it.remove()

@@ -3,7 +3,7 @@ import os
 import pathlib
 import shutil
 
-from harness import PROGRAM, Server, Skipped, equal, expect, run_words, server, shows
+from harness import PATIENCE, PROGRAM, Server, Skipped, equal, expect, run_words, server, shows
 
 
 def processors_of(text):
@@ -73,7 +73,8 @@ def pins_are_refused():
         it = Server("--pin-threads", "-t", str(count),
                     environment={"REFUSE": f"pthread_setaffinity_np {number}", "LD_PRELOAD": PROGRAM["refuser"]})
         try:
-            equal((it.is_ready, it.process.wait(30)), (False, 71), f"it ends: {it.said()}")
+            expect(it.is_ready is False, f"it serves: {it.said()}")
+            equal(it.process.wait(PATIENCE), 71, "the status")
             equal(it.said(), "kangarood: error: --pin-threads: Operation not permitted\n", "what it said")
         finally:
             it.remove()
