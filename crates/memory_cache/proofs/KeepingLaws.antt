@@ -82,7 +82,7 @@ few_without key (x ∷ pairs) =
     ]
 
 -- without the key of a pair that is found there are fewer
-fewer : (key : List ℕ) (pairs : List Pair) (p : Pair) → pair_in key pairs ≡ Some p → length (without p.key pairs) < length pairs
+pub fewer : (key : List ℕ) (pairs : List Pair) (p : Pair) → pair_in key pairs ≡ Some p → length (without p.key pairs) < length pairs
 fewer key [] p e = absurd cc
 fewer key (x ∷ pairs) p e = elim (cases_Bool (bytes_eq key x.key)) [
   | inl same ↦

@@ -1,3 +1,4 @@
 mod Finding
 mod Ordering
 mod KeepingLaws
+mod Leaving

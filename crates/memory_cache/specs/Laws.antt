@@ -1,7 +1,7 @@
 -- Laws of the pairs in memory.
 use Rattle.std.specs.Prelude.{◌≡◌, ◌≢◌, ◌≤◌, ℕ, List, Bool, IsTrue, Some, All, Contains}
 use Rattle.memory_cache.specs.declared.pair.Pair.{Pair}
-use Rattle.memory_cache.specs.MemoryList.{MemoryList, IsBounded, value_in, after_put, pushed_out, after_get, after_remove}
+use Rattle.memory_cache.specs.MemoryList.{MemoryList, IsBounded, value_in, after_put, pushed_out, leaving_for, after_get, after_remove}
 use Rattle.record_pages.specs.declared.timed_value.TimedValue.{TimedValue}
 
 -- each pair in memory passes a test
@@ -39,3 +39,7 @@ FoundIsHeld = (key : List ℕ) (value : TimedValue) (list : MemoryList) → valu
 -- a pair that a put pushes out was held, under another key than that of the pair that was put
 abbrev pub PushedOutWasHeld : Type 0
 PushedOutWasHeld = (pair out : Pair) (list : MemoryList) → 1 ≤ list.capacity → pushed_out pair list ≡ Some out → Contains list.pairs out × (out.key ≢ pair.key)
+
+-- a put pushes out the pair that leaves for its key
+abbrev pub PushedOutIsLeaving : Type 0
+PushedOutIsLeaving = (pair : Pair) (list : MemoryList) → IsBounded list → pushed_out pair list ≡ leaving_for pair.key list

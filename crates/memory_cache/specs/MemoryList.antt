@@ -1,5 +1,5 @@
 -- The pairs in memory: a list with distinct keys, the most recent first, of at most this many pairs.
-use Rattle.std.specs.Prelude.{◌≢◌, ℕ, ◌≤◌, List, [], ◌∷◌, length, take, filter, find, not, slice_get, AllPairs, Option, option_map, Some, None}
+use Rattle.std.specs.Prelude.{◌≢◌, ℕ, ◌-◌, ◌≤◌, ◌||◌, List, [], ◌∷◌, length, take, filter, find, not, nat_lt, is_some, slice_get, AllPairs, Option, option_map, Some, None, if◌then◌else◌}
 use Rattle.std.specs.Str.{bytes_eq}
 use Rattle.memory_cache.specs.declared.pair.Pair.{Pair}
 use Rattle.record_pages.specs.declared.timed_value.TimedValue.{TimedValue}
@@ -58,6 +58,14 @@ after_put pair list = holding list (take list.capacity (entered pair list.pairs)
 -- the pair for which a put has no room: the one past the capacity
 abbrev pub pushed_out : Pair → MemoryList → Option Pair
 pushed_out pair list = slice_get (entered pair list.pairs) list.capacity
+
+-- the pair that was used least recently
+abbrev pub last_pair : List Pair → Option Pair
+last_pair pairs = slice_get pairs (length pairs - 1)
+
+-- the pair that leaves for one of this key: none if the key has a pair or there is room, else the one that was used least recently
+abbrev pub leaving_for : List ℕ → MemoryList → Option Pair
+leaving_for key list = if is_some (value_in key list.pairs) || nat_lt (length list.pairs) list.capacity then None else last_pair list.pairs
 
 -- after a get: the key's pair is the most recent
 abbrev pub after_get : List ℕ → MemoryList → MemoryList

@@ -1,7 +1,7 @@
 // The objects in memory, the most recent first.
-ghost use Rattle.std.specs.Prelude.{◌≡◌, ◌≤◌, ◌↔◌, [], length, option_copied, IfOk, IfErr, OnOk, OnErr, IsSome, IsOk, IsTrue};
+ghost use Rattle.std.specs.Prelude.{◌≡◌, ◌≤◌, ◌↔◌, [], length, option_copied, option_map, IfOk, IfErr, OnOk, OnErr, IsSome, IsOk, IsTrue};
 ghost use Rattle.std.specs.Borrow.{sem};
-ghost use Rattle.memory_cache.specs.MemoryList.{IsBounded, value_in, empty, after_put, pushed_out, after_get, after_remove};
+ghost use Rattle.memory_cache.specs.MemoryList.{IsBounded, value_in, empty, after_put, pushed_out, last_pair, leaving_for, after_get, after_remove};
 
 use crate::key_bytes::KeyBytes;
 use crate::pair::Pair;
@@ -31,6 +31,7 @@ impl Model for MemoryCache {
 
 impl MemoryCache {
     ghost use Rattle.memory_cache.specs.Lending.{EndsAs};
+    ghost use Rattle.record_pages.specs.declared.timed_value.TimedValue.{TimedValue};
 
     /// An empty memory for this many objects, or `AllocError` if memory was refused. Its table hashes by a seed that is
     /// the same in every run.
@@ -143,6 +144,31 @@ impl MemoryCache {
                 },
             ) => Err(Pair { key, value }),
         }
+    }
+
+    /// The key of the pair that was used least recently.
+    pub fn last(&self) -> Option<&Key>
+        ensures { option_copied result ≡ option_map (λ pair. pair.key) (last_pair self.now.pairs) }
+    {
+        let (key, _) = self.objects.peek_lru()?;
+        Some(key)
+    }
+
+    /// The key of the pair that would have to leave for one of the key with these bytes: that of `last` if as many objects
+    /// are held as may be and the key has none, else no key.
+    pub fn leaving(&self, key: &[u8]) -> Option<&Key>
+        ensures key { option_copied result
+            ≡ option_map (λ pair. pair.key) (leaving_for key.now self.now) }
+
+        // It is what a put of the key pushes out, whatever the value.
+        ensures pushed { (value : TimedValue) → option_copied result
+            ≡ option_map (λ pair. pair.key)
+            (pushed_out (record { key = key.now; value = value }) self.now) }
+    {
+        if self.len() < self.capacity() || self.peek_bytes(key).is_some() {
+            return None;
+        }
+        self.last()
     }
 
     /// Takes the key's pair out and gives its value.

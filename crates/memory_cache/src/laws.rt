@@ -1,5 +1,5 @@
 // Laws of the pairs in memory, for the layer above.
-ghost use Rattle.memory_cache.specs.Laws.{PutKeepsAll, GetKeepsAll, RemoveKeepsAll, PutKeepsBounds, GetKeepsBounds, RemoveKeepsBounds, FoundIsHeld, PushedOutWasHeld};
+ghost use Rattle.memory_cache.specs.Laws.{PutKeepsAll, GetKeepsAll, RemoveKeepsAll, PutKeepsBounds, GetKeepsBounds, RemoveKeepsBounds, FoundIsHeld, PushedOutWasHeld, PushedOutIsLeaving};
 
 /// What passes a test of all pairs in memory still does after each call, if a pair that is put passes it.
 pub fn memory_keeps_all()
@@ -23,4 +23,10 @@ pub fn found_is_held()
 /// A pair that a put pushes out was held, and has another key than the one that was put.
 pub fn pushed_out_was_held()
     ensures { PushedOutWasHeld }
+{}
+
+/// A put pushes out the pair that leaves for its key: none if the key has a pair or there is room, else the one that was used least
+/// recently.
+pub fn pushed_out_is_leaving()
+    ensures { PushedOutIsLeaving }
 {}
