@@ -16,7 +16,7 @@ use Rattle.c_lane.specs.Shapes.{IsLayoutOf}
 -- what the lane below was opened as, is what is promised
 pub opens : {D : Type 0} (s : LaneShape) (layout : Layout) (seed : Seed) (number : ℕ) (device boxed : D) (counted : CountedDevice D) (random table : RandomSeed) (words : Lcg) (serving : Serving (CountedDevice D)) →
     IsLayoutOf s layout → boxed ≡ device → counted ≡ record { device = boxed; counts = no_device_counts } → random ≡ seed_of seed → words ≡ words_for random number → table ≡ derived random number →
-    OpensServing layout s.lease_slots s.bring_back table counted serving →
+    OpensServing layout s.lease_slots s.bring_back number table counted serving →
     Opens s seed number device (record { serving = serving; words = words })
 opens {D} s layout seed number device boxed counted random table words serving is boxed_is counted_is random_is words_is table_is opened =
     let table_is_derived : table ≡ derived (seed_of seed) number = table_is ∙ ap (λ (r : RandomSeed). derived r number) random_is in
@@ -25,7 +25,7 @@ opens {D} s layout seed number device boxed counted random table words serving i
       layout = layout;
       numbers = is.numbers;
       serving =
-          subst (λ (t : RandomSeed). OpensServing layout s.lease_slots s.bring_back t (record { device = device; counts = no_device_counts }) serving) table_is_derived
-          (subst (λ (d : CountedDevice D). OpensServing layout s.lease_slots s.bring_back table d serving) device_is opened);
+          subst (λ (t : RandomSeed). OpensServing layout s.lease_slots s.bring_back number t (record { device = device; counts = no_device_counts }) serving) table_is_derived
+          (subst (λ (d : CountedDevice D). OpensServing layout s.lease_slots s.bring_back number table d serving) device_is opened);
       words = words_is ∙ ap (λ (r : RandomSeed). words_for r number) random_is;
     }

@@ -9,7 +9,8 @@ use Rattle.mover.specs.declared.answer_kind.AnswerKind.TheVariants as seen
 use Rattle.mover.specs.Get.{answer_of}
 use Rattle.service_lane.specs.Asked.{TellsExpiry}
 use Rattle.service_lane.specs.Serving.{Serving, Gets}
-use Rattle.service_lane.specs.Leases.{writes_for}
+use Rattle.service_lane.specs.Leases.{lease_for}
+use Rattle.service_lane.specs.declared.lease.Lease.{Lease}
 use Rattle.service_lane.specs.Counting.{counts_lease}
 use Rattle.c_lane.specs.declared.hit.Hit.{Hit as Told}
 use Rattle.c_lane.specs.declared.status.Status.{Status}
@@ -72,26 +73,26 @@ pub record Answers {D : Type 0} (laws : Laws D) (key : List ℕ) (moment : ℕ) 
   pub tells : TellsAnswer kind value buffer status into hit
 
 -- what comes after an answer: at a miss a lease, which is counted; at a hit nothing
-abbrev pub LeasedAfter : {D : Type 0} → Answer → List ℕ → ℕ → Serving (CountedDevice D) → Serving (CountedDevice D) → ℕ → Type 0
-LeasedAfter (Hit value tier) key writes between new lease = (new ≡ between) × (lease ≡ writes)
-LeasedAfter (Miss cause) key writes between new lease =
-    (new ≡ record between { counts = counts_lease between.counts }) × (lease ≡ writes_for between.slots key)
+abbrev pub LeasedAfter : {D : Type 0} → Answer → List ℕ → Lease → Serving (CountedDevice D) → Serving (CountedDevice D) → Lease → Type 0
+LeasedAfter (Hit value tier) key before between new lease = (new ≡ between) × (lease ≡ before)
+LeasedAfter (Miss cause) key before between new lease =
+    (new ≡ record between { counts = counts_lease between.counts }) × (lease ≡ lease_for between.slots key)
 
 -- A get that leases its key at a miss.
-pub record AnswersOrLeases {D : Type 0} (laws : Laws D) (key : List ℕ) (moment : ℕ) (buffer : List ℕ) (writes : ℕ) (old : LaneState D) (status : Status) (new : LaneState D) (into : List ℕ) (hit : Told) (lease : ℕ) : Type 0 where
+pub record AnswersOrLeases {D : Type 0} (laws : Laws D) (key : List ℕ) (moment : ℕ) (buffer : List ℕ) (before : Lease) (old : LaneState D) (status : Status) (new : LaneState D) (into : List ℕ) (hit : Told) (lease : Lease) : Type 0 where
   pub kind : AnswerKind
   pub value : List ℕ
   pub between : Serving (CountedDevice D)
   pub gets : LaneGets laws key moment (answer_of kind value) old.serving between
   pub expires : LaneTells laws key value kind old.serving
-  pub leased : LeasedAfter (answer_of kind value) key writes between new.serving lease
+  pub leased : LeasedAfter (answer_of kind value) key before between new.serving lease
   pub words : new.words ≡ old.words
   pub tells : TellsAnswer kind value buffer status into hit
 
--- a lease of a key: it tells the writes of its slot, and is counted; nothing else changes
-pub record LeasesKey {D : Type 0} (key : List ℕ) (old : LaneState D) (status : Status) (new : LaneState D) (lease : ℕ) : Type 0 where
+-- a lease of a key: it is of its slot as it is, of its hash and of the lane, and is counted; nothing else changes
+pub record LeasesKey {D : Type 0} (key : List ℕ) (old : LaneState D) (status : Status) (new : LaneState D) (lease : Lease) : Type 0 where
   pub done : status ≡ statuses.Done
-  pub writes : lease ≡ writes_for old.serving.slots key
+  pub leased : lease ≡ lease_for old.serving.slots key
   pub leaves : new ≡ record old { serving = record old.serving { counts = counts_lease old.serving.counts } }
 
 -- a get of what is no key: nothing changes, and no hit is told

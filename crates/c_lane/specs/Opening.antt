@@ -19,7 +19,7 @@ use Rattle.c_lane.specs.Shapes.{config_of, first_faulty_field}
 pub record Opens {D : Type 0} (s : LaneShape) (seed : Seed) (number : ℕ) (device : D) (lane : LaneState D) : Type 0 where
   pub layout : Layout
   pub numbers : HasNumbersOf layout (config_of s)
-  pub serving : OpensServing layout s.lease_slots s.bring_back (derived (seed_of seed) number) (record { device = device; counts = no_device_counts }) lane.serving
+  pub serving : OpensServing layout s.lease_slots s.bring_back number (derived (seed_of seed) number) (record { device = device; counts = no_device_counts }) lane.serving
   pub words : lane.words ≡ words_for (seed_of seed) number
 
 -- a lane of a shape can be opened over this many pages, memory aside

@@ -8,6 +8,7 @@ use Rattle.memory_cache.specs.declared.pair.Pair.{Pair}
 use Rattle.rriparoo.specs.Rriparoo.{rriparoo_plan}
 use Rattle.service_lane.specs.Counting.{counts_refused_put, counts_refused_fill, counts_stale}
 use Rattle.service_lane.specs.Leases.{HoldsLease}
+use Rattle.service_lane.specs.declared.lease.Lease.{Lease}
 use Rattle.service_lane.specs.Serving.{Removes}
 use Rattle.service_lane.specs.WithHelp.{PutsAndHelps, FillsAndHelps}
 use Rattle.service_lane.specs.Words.{next_word, next_words}
@@ -61,16 +62,15 @@ PutOrRemoveLeaves laws key value expires old statuses.TooLarge new = LaneRemoves
 PutOrRemoveLeaves laws key value expires old statuses.NoMemory new = RemovesBehind laws key old new
 PutOrRemoveLeaves laws key value expires old status new = ⊥
 
--- A fill that was stored, by a lease that had not ended: the lane's fill of the pair by the next word of admission, and help after it.
-pub record Fills {D : Type 0} (laws : Laws D) (writes : ℕ) (key value : List ℕ) (expires : ℕ) (old new : LaneState D) : Type 0 where
+-- A fill that was stored, by a lease of its lane and key that had not ended: the lane's fill of the pair by the next word of admission, and help after it.
+pub record Fills {D : Type 0} (laws : Laws D) (lease : Lease) (key value : List ℕ) (expires : ℕ) (old new : LaneState D) : Type 0 where
   pub pushed : Pushed
-  pub held : ¬ ¬ HoldsLease old.serving.slots key writes
-  pub fills : FillsAndHelps page_bytes (honest_in laws) (failures_in laws) (held_in laws) rriparoo_plan (pair_of key value expires) (next_word old.words) writes pushed old.serving new.serving
+  pub fills : FillsAndHelps page_bytes (honest_in laws) (failures_in laws) (held_in laws) rriparoo_plan (pair_of key value expires) (next_word old.words) lease pushed old.serving new.serving
   pub words : new.words ≡ next_words old.words
 
--- A fill whose lease had ended: that is counted, and a word was drawn.
-pub record IsStale {D : Type 0} (writes : ℕ) (key : List ℕ) (old new : LaneState D) : Type 0 where
-  pub ended : ¬ HoldsLease old.serving.slots key writes
+-- A fill whose lease had ended, or was another key's or another lane's: that is counted, and a word was drawn.
+pub record IsStale {D : Type 0} (lease : Lease) (key : List ℕ) (old new : LaneState D) : Type 0 where
+  pub ended : ¬ HoldsLease old.serving.slots key lease
   pub stays : new ≡ record { serving = record old.serving { counts = counts_stale old.serving.counts }; words = next_words old.words }
 
 -- the lane refused a fill for want of memory: that is counted, and a word was drawn
@@ -81,13 +81,13 @@ without_fill old = record {
 }
 
 -- What a fill leaves, by its status.
-abbrev pub FillLeaves : {D : Type 0} → Laws D → ℕ → List ℕ → List ℕ → ℕ → LaneState D → Status → LaneState D → Type 0
-FillLeaves laws writes key value expires old statuses.Done new = Fills laws writes key value expires old new
-FillLeaves laws writes key value expires old statuses.Stale new = IsStale writes key old new
-FillLeaves laws writes key value expires old statuses.WrongKey new = new ≡ old
-FillLeaves laws writes key value expires old statuses.TooLarge new = new ≡ old
-FillLeaves laws writes key value expires old statuses.NoMemory new = (new ≡ old) ⊎ (new ≡ without_fill old)
-FillLeaves laws writes key value expires old status new = ⊥
+abbrev pub FillLeaves : {D : Type 0} → Laws D → Lease → List ℕ → List ℕ → ℕ → LaneState D → Status → LaneState D → Type 0
+FillLeaves laws lease key value expires old statuses.Done new = Fills laws lease key value expires old new
+FillLeaves laws lease key value expires old statuses.Stale new = IsStale lease key old new
+FillLeaves laws lease key value expires old statuses.WrongKey new = new ≡ old
+FillLeaves laws lease key value expires old statuses.TooLarge new = new ≡ old
+FillLeaves laws lease key value expires old statuses.NoMemory new = (new ≡ old) ⊎ (new ≡ without_fill old)
+FillLeaves laws lease key value expires old status new = ⊥
 
 -- What a removal leaves, by its status.
 abbrev pub RemoveLeaves : {D : Type 0} → Laws D → List ℕ → LaneState D → Status → LaneState D → Type 0
@@ -111,9 +111,9 @@ pub record PutsOrRemoves {D : Type 0} (laws : Laws D) (key value : List ℕ) (ex
   pub leaves : PutOrRemoveLeaves laws key value expires old status new
 
 -- A fill, whole.
-pub record FillsOrNot {D : Type 0} (laws : Laws D) (writes : ℕ) (key value : List ℕ) (expires : ℕ) (old : LaneState D) (status : Status) (new : LaneState D) : Type 0 where
+pub record FillsOrNot {D : Type 0} (laws : Laws D) (lease : Lease) (key value : List ℕ) (expires : ℕ) (old : LaneState D) (status : Status) (new : LaneState D) : Type 0 where
   pub refuses : RefusesBytes key value status
-  pub leaves : FillLeaves laws writes key value expires old status new
+  pub leaves : FillLeaves laws lease key value expires old status new
 
 -- A removal, whole: what is no key is refused, and nothing else.
 pub record RemovesKey {D : Type 0} (laws : Laws D) (key : List ℕ) (old : LaneState D) (status : Status) (new : LaneState D) : Type 0 where

@@ -77,6 +77,7 @@ impl<D: PageDevice<4096>> CLane<D> {
             &layout,
             shape.lease_slots,
             back,
+            number,
             counted,
             table_seed,
         ) {

@@ -10,6 +10,7 @@ use crate::handle::Handle;
 use crate::keeping::{open_in, put_back, take_lane, take_lane_of};
 use crate::lent_pages::LentPages;
 use c_lane::{Hit, LaneShape, Seed};
+use service_lane::Lease;
 use std::alloc::Global;
 
 /// What each of the calls on a key answers if the key is another lane's: no status is this number. It does nothing then.
@@ -78,45 +79,45 @@ pub extern "C" fn kl_get_or_lease(
     moment: u64,
     into: &mut [u8],
     hit: &mut Hit,
-    writes: &mut u64,
+    lease: &mut Lease,
 ) -> i32
     requires { IsFull lane.old.lane }
     ensures other_lane { IsForeign lane.old.lane key.now →
-        IsPassedOver result lane.old.lane lane.new.lane × (into.new ≡ into.old) × (hit.new ≡ hit.old) × (writes.new ≡ writes.old) }
+        IsPassedOver result lane.old.lane lane.new.lane × (into.new ≡ into.old) × (hit.new ≡ hit.old) × (lease.new ≡ lease.old) }
     ensures answered { IsHere lane.old.lane key.now → IsKey key.now → Tells
-        (λ status old new. AnswersOrLeases page_laws key.now moment into.old writes.old old
-        status new into.new hit.new writes.new)
+        (λ status old new. AnswersOrLeases page_laws key.now moment into.old lease.old old
+        status new into.new hit.new lease.new)
         result lane.old.lane lane.new.lane }
     ensures wrong_key { (IsKey key.now → ⊥) → Tells
         (λ status old new. RefusesGet into.old old status new into.new hit.new)
         result lane.old.lane lane.new.lane }
-    ensures no_lease { (IsKey key.now → ⊥) → writes.new ≡ writes.old }
+    ensures no_lease { (IsKey key.now → ⊥) → lease.new ≡ lease.old }
 {
     let Some(mut kept) = take_lane_of(alloc, lane, key) else {
         return OTHER_LANE;
     };
-    let status = kept.lane.get_or_lease(key, moment, into, hit, writes);
+    let status = kept.lane.get_or_lease(key, moment, into, hit, lease);
     put_back(lane, kept);
     status.number()
 }
 
 /// Leases a key, whether it is there or not.
 #[unsafe(no_mangle)]
-pub extern "C" fn kl_lease(alloc: Global, lane: &mut Handle, key: &[u8], writes: &mut u64) -> i32
+pub extern "C" fn kl_lease(alloc: Global, lane: &mut Handle, key: &[u8], lease: &mut Lease) -> i32
     requires { IsFull lane.old.lane }
     ensures other_lane { IsForeign lane.old.lane key.now →
-        IsPassedOver result lane.old.lane lane.new.lane × (writes.new ≡ writes.old) }
+        IsPassedOver result lane.old.lane lane.new.lane × (lease.new ≡ lease.old) }
     ensures leased { IsHere lane.old.lane key.now → IsKey key.now → Tells
-        (λ status old new. LeasesKey key.now old status new writes.new)
+        (λ status old new. LeasesKey key.now old status new lease.new)
         result lane.old.lane lane.new.lane }
     ensures wrong_key { (IsKey key.now → ⊥) → Tells
-        (λ status old new. (status ≡ Status.WrongKey) × (new ≡ old) × (writes.new ≡ writes.old))
+        (λ status old new. (status ≡ Status.WrongKey) × (new ≡ old) × (lease.new ≡ lease.old))
         result lane.old.lane lane.new.lane }
 {
     let Some(mut kept) = take_lane_of(alloc, lane, key) else {
         return OTHER_LANE;
     };
-    let status = kept.lane.lease(key, writes);
+    let status = kept.lane.lease(key, lease);
     put_back(lane, kept);
     status.number()
 }
@@ -180,7 +181,7 @@ pub extern "C" fn kl_put_or_remove(
 pub extern "C" fn kl_fill(
     alloc: Global,
     lane: &mut Handle,
-    writes: u64,
+    lease: &Lease,
     key: &[u8],
     value: &[u8],
     expires: u64,
@@ -190,14 +191,14 @@ pub extern "C" fn kl_fill(
     ensures other_lane { IsForeign lane.old.lane key.now →
         IsPassedOver result lane.old.lane lane.new.lane × (is_due.new ≡ is_due.old) }
     ensures filled { IsHere lane.old.lane key.now → Tells
-        (λ status old new. FillsOrNot page_laws writes key.now value.now expires old status new)
+        (λ status old new. FillsOrNot page_laws lease.now key.now value.now expires old status new)
         result lane.old.lane lane.new.lane }
     ensures due { IsHere lane.old.lane key.now → TellsDue is_due.new lane.new.lane }
 {
     let Some(mut kept) = take_lane_of(alloc, lane, key) else {
         return OTHER_LANE;
     };
-    let status = kept.lane.fill(alloc, writes, key, value, expires);
+    let status = kept.lane.fill(alloc, lease, key, value, expires);
     *is_due = u32::from(kept.lane.is_due());
     put_back(lane, kept);
     status.number()

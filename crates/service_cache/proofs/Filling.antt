@@ -1,6 +1,7 @@
 -- What a fill adds to the list.
 use Rattle.std.proofs.Common.{◌≡◌, ℕ, List, Option, ◌∙◌}
 use Rattle.certificate_checker.specs.Deeds.{Deed}
+use Rattle.service_lane.specs.declared.lease.Lease.{Lease}
 use Rattle.service_lane.specs.declared.filled.Filled.{Filled}
 use Rattle.service_lane.specs.declared.filled.Filled.TheVariants.{Stored, Stale}
 use Rattle.deed_book.specs.Registers.{Registered, EntersIn}
@@ -24,6 +25,6 @@ refused_adds held lane_of key value expires (refusals.Put fault) old seat_old ne
 refused_adds held lane_of key value expires (refusals.Book fault) old seat_old new seat_new leaves = leaves.2
 
 -- a fill that was refused leaves the seat as it was
-pub refused_stays : {D : Type 0} (size : ℕ) (held : D → ℕ → Option (List ℕ)) (key value : List ℕ) (expires word writes : ℕ) (fault : SeatPutFault) (old : Seated D) (seat_old : List Deed) (new : Seated D) (seat_new : List Deed) → FillRefusalLeaves size held key value expires word writes fault old seat_old new seat_new → seat_new ≡ seat_old
-refused_stays size held key value expires word writes (refusals.Put fault) old seat_old new seat_new leaves = leaves.1
-refused_stays size held key value expires word writes (refusals.Book fault) old seat_old new seat_new leaves = leaves.2
+pub refused_stays : {D : Type 0} (size : ℕ) (held : D → ℕ → Option (List ℕ)) (key value : List ℕ) (expires word : ℕ) (lease : Lease) (fault : SeatPutFault) (old : Seated D) (seat_old : List Deed) (new : Seated D) (seat_new : List Deed) → FillRefusalLeaves size held key value expires word lease fault old seat_old new seat_new → seat_new ≡ seat_old
+refused_stays size held key value expires word lease (refusals.Put fault) old seat_old new seat_new leaves = leaves.1
+refused_stays size held key value expires word lease (refusals.Book fault) old seat_old new seat_new leaves = leaves.2

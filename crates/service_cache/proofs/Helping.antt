@@ -5,6 +5,7 @@ use Rattle.policy_laws.specs.declared.job.Job.{Job}
 use Rattle.record_pages.specs.Expiry.{timed}
 use Rattle.record_pages.specs.declared.pushed.Pushed.{Pushed}
 use Rattle.service_lane.specs.declared.helped.Helped.{Helped}
+use Rattle.service_lane.specs.declared.lease.Lease.{Lease}
 use Rattle.service_lane.specs.Serving.{Serving, PutsStore, FillsStore}
 use Rattle.service_lane.specs.Upkeep.{Helps}
 use Rattle.service_lane.specs.WithHelp.{PutsAndHelps, FillsAndHelps}
@@ -13,5 +14,5 @@ module _ {D : Type 0} (size : ℕ) (honest : D → Bool) (failures : D → ℕ) 
   pub puts_and_helps : PutsStore size held (record { key = key; value = timed value expires }) word pushed old between → PutsAndHelps size honest failures held plan_of (record { key = key; value = timed value expires }) next pushed old new
   puts_and_helps puts = record { between = between; helped = helped; puts = subst (λ (w : ℕ). PutsStore size held (record { key = key; value = timed value expires }) w pushed old between) is puts; helps = helps }
 
-  pub fills_and_helps : (writes : ℕ) → FillsStore size held (record { key = key; value = timed value expires }) word writes pushed old between → FillsAndHelps size honest failures held plan_of (record { key = key; value = timed value expires }) next writes pushed old new
-  fills_and_helps writes fills = record { between = between; helped = helped; fills = subst (λ (w : ℕ). FillsStore size held (record { key = key; value = timed value expires }) w writes pushed old between) is fills; helps = helps }
+  pub fills_and_helps : (lease : Lease) → FillsStore size held (record { key = key; value = timed value expires }) word lease pushed old between → FillsAndHelps size honest failures held plan_of (record { key = key; value = timed value expires }) next lease pushed old new
+  fills_and_helps lease fills = record { between = between; helped = helped; fills = subst (λ (w : ℕ). FillsStore size held (record { key = key; value = timed value expires }) w lease pushed old between) is fills; helps = helps }

@@ -14,6 +14,7 @@ use Rattle.service_cache.specs.Calls.{HasExpiry, IsHit}
 use Rattle.record_pages.specs.declared.pushed.Pushed.{Pushed}
 use Rattle.record_pages.specs.Expiry.{timed}
 use Rattle.service_lane.specs.declared.helped.Helped.{Helped}
+use Rattle.service_lane.specs.declared.lease.Lease.{Lease}
 use Rattle.service_lane.specs.declared.upkept.Upkept.{Upkept}
 use Rattle.service_lane.specs.declared.upkept.Upkept.TheVariants as upkept
 use Rattle.mover.specs.Store.{StoreState}
@@ -44,8 +45,8 @@ module _ {D : Type 0} (size : ℕ) (honest : D → Bool) (failures : D → ℕ) 
   pub puts_keep : (key value : List ℕ) (expires word : ℕ) (pushed : Pushed) (old new : Serving D) → PutsStore size held (record { key = key; value = timed value expires }) word pushed old new → IsAsHonest old new
   puts_keep key value expires word pushed old new puts = ap honest puts.puts.device
 
-  pub fills_keep : (key value : List ℕ) (expires word writes : ℕ) (pushed : Pushed) (old new : Serving D) → FillsStore size held (record { key = key; value = timed value expires }) word writes pushed old new → IsAsHonest old new
-  fills_keep key value expires word writes pushed old new fills = ap honest fills.puts.device
+  pub fills_keep : (key value : List ℕ) (expires word : ℕ) (lease : Lease) (pushed : Pushed) (old new : Serving D) → FillsStore size held (record { key = key; value = timed value expires }) word lease pushed old new → IsAsHonest old new
+  fills_keep key value expires word lease pushed old new fills = ap honest fills.puts.device
 
   pub removes_keep : (key : List ℕ) (old new : Serving D) → Removes held key old new → IsAsHonest old new
   removes_keep key old new removes = ap honest removes.removes.device

@@ -4,3 +4,4 @@ pub mod Calls
 pub mod Held
 pub mod Refusals
 pub mod Seated
+pub mod AtLanes

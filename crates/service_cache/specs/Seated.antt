@@ -9,6 +9,7 @@ use Rattle.service_lane.specs.Counting.{counts_refused_put, counts_refused_fill}
 use Rattle.service_lane.specs.Serving.{Serving, FillsStore, Removes}
 use Rattle.service_lane.specs.Words.{next_words}
 use Rattle.rand_pcg.specs.Lcg.{Lcg}
+use Rattle.service_lane.specs.declared.lease.Lease.{Lease}
 use Rattle.service_lane.specs.declared.filled.Filled.{Filled}
 use Rattle.service_lane.specs.declared.filled.Filled.TheVariants.{Stored, Stale}
 use Rattle.deed_book.specs.Parts.{part_of}
@@ -77,15 +78,15 @@ HasRoomFor lane_of register (Stored pushed) = ¬ HasNoRoom lane_of register
 HasRoomFor lane_of register Stale = Unit {0}
 
 -- the store filled the key, and then it was removed
-pub record FillsAndRemoves {D : Type 0} (size : ℕ) (held : D → ℕ → Option (List ℕ)) (key value : List ℕ) (expires word writes : ℕ) (old new : Serving D) : Type 0 where
+pub record FillsAndRemoves {D : Type 0} (size : ℕ) (held : D → ℕ → Option (List ℕ)) (key value : List ℕ) (expires word : ℕ) (lease : Lease) (old new : Serving D) : Type 0 where
   pub pushed : Pushed
   pub between : Serving D
-  pub fills : FillsStore size held (record { key = key; value = timed value expires }) word writes pushed old between
+  pub fills : FillsStore size held (record { key = key; value = timed value expires }) word lease pushed old between
   pub removes : Removes held key between new
 
 -- What a fill leaves that was refused. If the book refused it, its key is removed.
-abbrev pub FillRefusalLeaves : {D : Type 0} → ℕ → (D → ℕ → Option (List ℕ)) → List ℕ → List ℕ → ℕ → ℕ → ℕ → SeatPutFault → Seated D → List Deed → Seated D → List Deed → Type 0
-FillRefusalLeaves size held key value expires word writes (put_refusals.Put fault) old seat_old new seat_new =
+abbrev pub FillRefusalLeaves : {D : Type 0} → ℕ → (D → ℕ → Option (List ℕ)) → List ℕ → List ℕ → ℕ → ℕ → Lease → SeatPutFault → Seated D → List Deed → Seated D → List Deed → Type 0
+FillRefusalLeaves size held key value expires word lease (put_refusals.Put fault) old seat_old new seat_new =
     (new ≡ record old { serving = record old.serving { counts = counts_refused_fill fault old.serving.counts } }) × (seat_new ≡ seat_old)
-FillRefusalLeaves size held key value expires word writes (put_refusals.Book fault) old seat_old new seat_new =
-    FillsAndRemoves size held key value expires word writes old.serving new.serving × (new.register ≡ old.register) × (seat_new ≡ seat_old)
+FillRefusalLeaves size held key value expires word lease (put_refusals.Book fault) old seat_old new seat_new =
+    FillsAndRemoves size held key value expires word lease old.serving new.serving × (new.register ≡ old.register) × (seat_new ≡ seat_old)

@@ -5,7 +5,7 @@ ghost use Rattle.service_cache.specs.Serving.{CanOpen, CanServe, RefusesLanes, R
 ghost use Rattle.service_cache.specs.Sorted.{AreAsSaid, SortsBy};
 
 use crate::open_service_fault::OpenServiceFault;
-use crate::opening::{Locked, lanes_over};
+use crate::opening::{Locked, lanes_over, under_locks};
 use crate::service_options::ServiceOptions;
 use cache_sizes::MAX_SHARDS;
 use deed_book::{BookName, KeyLanes, NamedBook, Seat};
@@ -128,7 +128,10 @@ impl<
         match check_lanes(layout, options, devices.as_slice()) {
             Ok(()) => {
                 let start = book.seat();
-                match lanes_over(alloc, layout, options, devices, seed, book) {
+                let Ok(seated) = lanes_over(alloc, layout, options, devices, seed, book) else {
+                    return Err(OpenServiceFault::OutOfMemory);
+                };
+                match under_locks(alloc, seated) {
                     Ok(lanes) => Ok(ServiceCache {
                         layout: *layout,
                         shards: options.shards,

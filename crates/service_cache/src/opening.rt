@@ -3,7 +3,7 @@ ghost use Rattle.std.specs.Prelude.{◌≡◌, ◌≤◌, ◌<◌, ◌^◌, ◌+
 ghost use Rattle.record_pages.specs.Asked.{layout_pages};
 ghost use Rattle.record_pages.specs.Sizes.{IsPageSize};
 ghost use Rattle.service_lane.specs.Words.{words_for};
-ghost use Rattle.service_cache.specs.Held.{IsNewLane};
+ghost use Rattle.service_cache.specs.Held.{IsNewLane, IsNewSeated};
 ghost use Rattle.service_cache.specs.Sorted.{AreAsSaid};
 
 use crate::lane::SeatedLane;
@@ -18,13 +18,13 @@ use std::alloc::{AllocError, Global};
 use std::collections::VecDeque;
 use std::sync::Mutex;
 
-/// A lane with its register under its lock, on cache lines of its own.
-pub(crate) type Locked<D, const PAGE: usize, L, J> = Mutex<
-    CachePadded<SeatedLane<CountedPages<Boxed<D>>, PAGE, L, J>>,
->;
+/// A lane of a cache, with its register, over a device that counts what it is asked.
+pub(crate) type Lane<D, const PAGE: usize, L, J> = SeatedLane<CountedPages<Boxed<D>>, PAGE, L, J>;
 
-/// An empty lane over each device, with the next register of the book, under its lock: the lanes have the numbers from 0 in the
-/// order of the devices.
+/// A lane under its lock, on cache lines of its own.
+pub(crate) type Locked<D, const PAGE: usize, L, J> = Mutex<CachePadded<Lane<D, PAGE, L, J>>>;
+
+/// An empty lane over each device, with the next register of the book: the lanes have the numbers from 0 in the order of the devices.
 pub(crate) fn lanes_over<D: PageDevice<PAGE>, const PAGE: usize, L: KeyLanes, J: BookName>(
     alloc: Global,
     layout: &Layout,
@@ -32,7 +32,7 @@ pub(crate) fn lanes_over<D: PageDevice<PAGE>, const PAGE: usize, L: KeyLanes, J:
     devices: Vec<D>,
     seed: RandomSeed,
     mut book: NamedBook<L, J>,
-) -> Result<Vec<Locked<D, PAGE, L, J>>, AllocError>
+) -> Result<Vec<Lane<D, PAGE, L, J>>, AllocError>
     requires first { book ≡ 0 }
     requires one_each { length devices.items ≡ L.lanes }
     requires few { length devices.items < 2 ^ 32 }
@@ -40,7 +40,8 @@ pub(crate) fn lanes_over<D: PageDevice<PAGE>, const PAGE: usize, L: KeyLanes, J:
     requires slots { 1 ≤ options.now.lease_slots }
     requires room { All (λ d. layout_pages layout.now ≤ D.page_count d) devices.items }
     requires honest { AreAsSaid L.is_honest D.honest devices.items }
-    ensures { IfOk result (λ lanes. length lanes.items ≡ length devices.items) }
+    ensures one_each { IfOk result (λ lanes. length lanes.items ≡ length devices.items) }
+    ensures new { IfOk result (λ lanes. All (IsNewSeated layout.now options.now seed) lanes.items) }
 {
     let count = devices.len();
     let mut lanes = Vec::with_capacity(alloc, count)?;
@@ -55,9 +56,9 @@ pub(crate) fn lanes_over<D: PageDevice<PAGE>, const PAGE: usize, L: KeyLanes, J:
     Ok(lanes)
 }
 
-// Adds what the lock of a new lane keeps, under its lock.
+// Adds a new lane.
 fn add_lane<D: PageDevice<PAGE>, const PAGE: usize, L: KeyLanes, J: BookName>(
-    lanes: &mut Vec<Locked<D, PAGE, L, J>>,
+    lanes: &mut Vec<Lane<D, PAGE, L, J>>,
     alloc: Global,
     layout: &Layout,
     options: &ServiceOptions,
@@ -70,16 +71,18 @@ fn add_lane<D: PageDevice<PAGE>, const PAGE: usize, L: KeyLanes, J: BookName>(
     requires room { layout_pages layout.now ≤ D.page_count device }
     requires few { L.lanes < 2 ^ 32 }
     requires honest { IsTrue (L.is_honest register.number) → IsTrue (D.honest device) }
-    ensures { OnOk result (length lanes.new.items ≡ length lanes.old.items + 1) }
+    ensures added { OnOk result (length lanes.new.items ≡ length lanes.old.items + 1) }
+    ensures new { All (IsNewSeated layout.now options.now seed) lanes.old.items
+        → OnOk result (All (IsNewSeated layout.now options.now seed) lanes.new.items) }
 {
-    let Ok(seated) = seated_over(alloc, layout, options, device, seed, register) else {
+    let Ok(lane) = seated_over(alloc, layout, options, device, seed, register) else {
         return Err(AllocError);
     };
-    lanes.push(Mutex::new(CachePadded::new(seated)))?;
+    lanes.push(lane)?;
     Ok(())
 }
 
-// What the lock of a new lane keeps: an empty lane over a device, with this register. The cache's seed gives what the lane and its
+// An empty lane over a device, with this register. The cache's seed gives what the lane and its
 // generator of words are seeded with, by the number of the lane in the book.
 fn seated_over<D: PageDevice<PAGE>, const PAGE: usize, L: KeyLanes, J: BookName>(
     alloc: Global,
@@ -88,7 +91,7 @@ fn seated_over<D: PageDevice<PAGE>, const PAGE: usize, L: KeyLanes, J: BookName>
     device: D,
     seed: RandomSeed,
     register: Register<L, J>,
-) -> Result<SeatedLane<CountedPages<Boxed<D>>, PAGE, L, J>, AllocError>
+) -> Result<Lane<D, PAGE, L, J>, AllocError>
     requires page_size { IsPageSize PAGE }
     requires slots { 1 ≤ options.now.lease_slots }
     requires room { layout_pages layout.now ≤ D.page_count device }
@@ -107,8 +110,28 @@ fn seated_over<D: PageDevice<PAGE>, const PAGE: usize, L: KeyLanes, J: BookName>
         layout,
         options.lease_slots,
         options.bring_back,
+        number,
         counted,
         lane_seed,
     )?;
     Ok(SeatedLane::new(lane, register, words_of(seed, number)))
+}
+
+/// Each of these lanes under a lock of its own.
+pub(crate) fn under_locks<D: PageDevice<PAGE>, const PAGE: usize, L: KeyLanes, J: BookName>(
+    alloc: Global,
+    seated: Vec<Lane<D, PAGE, L, J>>,
+) -> Result<Vec<Locked<D, PAGE, L, J>>, AllocError>
+    ensures { IfOk result (λ lanes. length lanes.items ≡ length seated.items) }
+{
+    let count = seated.len();
+    let mut lanes = Vec::with_capacity(alloc, count)?;
+    let mut seated = VecDeque::from(seated);
+    for _ in 0..count {
+        let Some(lane) = seated.pop_front() else {
+            unreachable!()
+        };
+        lanes.push(Mutex::new(CachePadded::new(lane)))?;
+    }
+    Ok(lanes)
 }

@@ -15,6 +15,7 @@ use Rattle.trace_file.specs.declared.act.Act.{Act}
 use Rattle.trace_file.specs.declared.act.Act.TheVariants.{Put, Remove, Hit, Miss}
 use Rattle.certificate_checker.specs.Deeds.{Deed}
 use Rattle.certificate_checker.specs.Latest.{IsWrite, Writes}
+use Rattle.service_lane.specs.declared.lease.Lease.{Lease}
 use Rattle.service_lane.specs.Leases.{LeaseSlots, hash_by, no_writes, slot_of, slot_for, is_write, writes_slot, writes_in, most_writes, shown_writes, one_more, AreCounted, with_write, HoldsLease, IsUnwrittenSince}
 
 -- ---- one deed more
@@ -54,8 +55,8 @@ AreShown seed count deeds writes = (slot : ℕ) → slot < count → get_or writ
 
 -- ---- what the slots show
 
-pub counted_opening : (seed : RandomSeed) (count : ℕ) (deeds : List Deed) (slots : LeaseSlots) → deeds ≡ [] → slots ≡ no_writes seed count → AreCounted deeds slots
-counted_opening seed count deeds slots none zeros slot within =
+pub counted_opening : (lane : ℕ) (seed : RandomSeed) (count : ℕ) (deeds : List Deed) (slots : LeaseSlots) → deeds ≡ [] → slots ≡ no_writes lane seed count → AreCounted deeds slots
+counted_opening lane seed count deeds slots none zeros slot within =
     let shown : slots.writes ≡ replicate count 0 = ap (λ (s : LeaseSlots). s.writes) zeros in
     let few : slot < count = subst (λ n. slot < n) (ap length shown ∙ length-replicate count 0) within in
     ap (λ s. get_or s slot 0) shown ∙ get_or-replicate count slot 0 0 few ∙ ap (λ ds. shown_writes (writes_in slots.seed (length slots.writes) slot ds)) (sym none)
@@ -146,12 +147,12 @@ all_shown n shown is few = step (ltb n most_writes) refl
     step false e = let most : shown ≡ most_writes = is ∙ ap (λ b. cond b n most_writes) e in absurd (omega (arith, most, few))
 
 -- after each front in which the slot had as many writes as a lease says that has not ended, the key was not written
-pub unwritten : (deeds : List Deed) (slots : LeaseSlots) (key : List ℕ) (writes : ℕ) → 1 ≤ length slots.writes → AreCounted deeds slots → HoldsLease slots key writes → IsUnwrittenSince slots deeds key writes
-unwritten deeds slots key writes some counted holds front after split at =
+pub unwritten : (deeds : List Deed) (slots : LeaseSlots) (key : List ℕ) (lease : Lease) → 1 ≤ length slots.writes → AreCounted deeds slots → HoldsLease slots key lease → IsUnwrittenSince slots deeds key lease.writes
+unwritten deeds slots key lease some counted holds front after split at =
     let seed = slots.seed in
     let count = length slots.writes in
     let k = slot_for slots key in
     let within : k < count = mod_below (hash_by seed key / 2 ^ 32) count some in
-    let all : writes_in seed count k deeds ≡ writes = all_shown (writes_in seed count k deeds) writes (sym holds.same ∙ counted k within) holds.few in
+    let all : writes_in seed count k deeds ≡ lease.writes = all_shown (writes_in seed count k deeds) lease.writes (sym (ap (λ (l : Lease). l.writes) holds.same) ∙ counted k within) holds.few in
     let parts : writes_in seed count k deeds ≡ writes_in seed count k front + writes_in seed count k after = ap (writes_in seed count k) split ∙ ap length (filter-append (writes_slot seed count k) front after) ∙ length-append (filter (writes_slot seed count k) front) (filter (writes_slot seed count k) after) in
     All-from_recursion (λ deed. ¬ Writes deed key) after (none_wrote seed count key after (omega (arith, all, parts, at)))

@@ -6,9 +6,11 @@ use Rattle.trace_file.specs.declared.act.Act.{Act}
 use Rattle.trace_file.specs.declared.act.Act.TheVariants.{Put, Remove, Hit, Miss}
 use Rattle.certificate_checker.specs.Deeds.{Deed}
 use Rattle.certificate_checker.specs.Latest.{Writes}
+use Rattle.service_lane.specs.declared.lease.Lease.{Lease}
 
--- the slots for leases: the seed by which keys have their slots, and how many writes each slot shows
+-- the slots for leases: the number of their lane, the seed by which keys have their slots, and how many writes each slot shows
 pub record LeaseSlots : Type 0 where
+  pub lane : ℕ
   pub seed : RandomSeed
   pub writes : List ℕ
 
@@ -20,9 +22,9 @@ hash_by seed bytes = (written (started seed) bytes).state
 abbrev pub slot_of : RandomSeed → ℕ → List ℕ → ℕ
 slot_of seed count key = hash_by seed key / 2 ^ 32 % count
 
--- this many slots, which have seen no write
-abbrev pub no_writes : RandomSeed → ℕ → LeaseSlots
-no_writes seed count = record { seed = seed; writes = replicate count 0 }
+-- this many slots of the lane of a number, which have seen no write
+abbrev pub no_writes : ℕ → RandomSeed → ℕ → LeaseSlots
+no_writes lane seed count = record { lane = lane; seed = seed; writes = replicate count 0 }
 
 -- whether an act writes: a put, a fill or a removal
 abbrev pub is_write : Act → Bool
@@ -72,10 +74,14 @@ with_write_in slots slot = record slots { writes = slice_set slots.writes slot (
 abbrev pub with_write : LeaseSlots → List ℕ → LeaseSlots
 with_write slots key = with_write_in slots (slot_for slots key)
 
--- a lease of this many writes has not ended: the slot of its key shows as many, and fewer than the most
-pub record HoldsLease (slots : LeaseSlots) (key : List ℕ) (writes : ℕ) : Type 0 where
-  pub same : writes_for slots key ≡ writes
-  pub few : writes < most_writes
+-- a lease of a key, of now: what its slot shows, its hash, and the number of the lane
+abbrev pub lease_for : LeaseSlots → List ℕ → Lease
+lease_for slots key = record { writes = writes_for slots key; hash = hash_by slots.seed key; lane = slots.lane }
+
+-- a lease is of this lane and this key, and has not ended: it is what a lease of now would be, of fewer writes than the most
+pub record HoldsLease (slots : LeaseSlots) (key : List ℕ) (lease : Lease) : Type 0 where
+  pub same : lease_for slots key ≡ lease
+  pub few : lease.writes < most_writes
 
 -- after each front of the deeds in which the slot of the key had this many writes, none writes the key
 abbrev pub IsUnwrittenSince : LeaseSlots → List Deed → List ℕ → ℕ → Type 0

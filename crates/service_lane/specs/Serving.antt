@@ -24,7 +24,8 @@ use Rattle.service_lane.specs.declared.filled.Filled.{Filled}
 use Rattle.service_lane.specs.declared.filled.Filled.TheVariants.{Stored, Stale}
 use Rattle.service_lane.specs.declared.open_lane_fault.OpenLaneFault.{OpenLaneFault}
 use Rattle.service_lane.specs.declared.open_lane_fault.OpenLaneFault.TheVariants as faults
-use Rattle.service_lane.specs.Leases.{LeaseSlots, IsUnwrittenSince, no_writes, with_write}
+use Rattle.service_lane.specs.declared.lease.Lease.{Lease}
+use Rattle.service_lane.specs.Leases.{LeaseSlots, HoldsLease, IsUnwrittenSince, no_writes, with_write}
 
 -- A store, what was asked of it and answered since it was opened, the copies of its objects on flash, if the lane makes any, what the
 -- slots for leases show, and how often what was done.
@@ -43,15 +44,15 @@ asked_of s = record { store = s.store; deeds = s.deeds; copies = s.copies }
 abbrev pub opening_to_serve : {D : Type 0} → Layout → D → StoreState D
 opening_to_serve layout device = opening_with (strikes_of layout.sets) layout device
 
--- A lane that was just opened to serve, of this layout over a device, with this many slots for leases, which have seen no write. If one
+-- A lane of a number that was just opened to serve, of this layout over a device, with this many slots for leases, which have seen no write. If one
 -- in so many hits on flash has its object brought back, three of four objects in memory are copies, and the others the store's.
-pub record OpensServing {D : Type 0} (layout : Layout) (lease_slots bring_back : ℕ) (seed : RandomSeed) (device : D) (new : Serving D) : Type 0 where
+pub record OpensServing {D : Type 0} (layout : Layout) (lease_slots bring_back number : ℕ) (seed : RandomSeed) (device : D) (new : Serving D) : Type 0 where
   pub numbers : HasNumbersOf new.store.layout (numbers_without layout (copies_of bring_back layout.memory))
   pub opened : new ≡ record {
     store = opening_to_serve new.store.layout device;
     deeds = [];
     copies = copies_for bring_back (copies_of bring_back layout.memory);
-    slots = no_writes seed lease_slots;
+    slots = no_writes number seed lease_slots;
     counts = no_counts;
   }
 
@@ -79,9 +80,11 @@ pub record PutsStore {D : Type 0} (size : ℕ) (held : D → ℕ → Option (Lis
   pub slots : new.slots ≡ with_write old.slots p.key
   pub counts : new.counts ≡ counts_put p.key p.value.value pushed old.counts
 
--- A fill that was stored, by a lease of so many writes: as a put, and its key was not written since the lease was given.
-pub record FillsStore {D : Type 0} (size : ℕ) (held : D → ℕ → Option (List ℕ)) (p : Pair) (word writes : ℕ) (pushed : Pushed) (old new : Serving D) : Type 0 where
-  pub unwritten : IsUnwrittenSince old.slots old.deeds p.key writes
+-- A fill that was stored, by a lease of its lane and its key that had not ended: as a put, and the key was not written since the lease
+-- was given.
+pub record FillsStore {D : Type 0} (size : ℕ) (held : D → ℕ → Option (List ℕ)) (p : Pair) (word : ℕ) (lease : Lease) (pushed : Pushed) (old new : Serving D) : Type 0 where
+  pub leased : HoldsLease old.slots p.key lease
+  pub unwritten : IsUnwrittenSince old.slots old.deeds p.key lease.writes
   pub puts : StorePuts size held p word old.store (Ok pushed) new.store
   pub deeds : new.deeds ≡ old.deeds ++ record { key = p.key; act = Put p.value.value p.value.expires } ∷ []
   pub copies : new.copies ≡ copy_gone p.key old.copies
@@ -89,9 +92,9 @@ pub record FillsStore {D : Type 0} (size : ℕ) (held : D → ℕ → Option (Li
   pub counts : new.counts ≡ counts_fill p.key p.value.value pushed old.counts
 
 -- what a fill leaves: if it is stale, all but a counter
-abbrev pub FillLeaves : {D : Type 0} → ℕ → (D → ℕ → Option (List ℕ)) → Pair → ℕ → ℕ → Serving D → Serving D → Filled → Type 0
-FillLeaves size held p word writes old new (Stored pushed) = FillsStore size held p word writes pushed old new
-FillLeaves size held p word writes old new Stale = new ≡ record old { counts = counts_stale old.counts }
+abbrev pub FillLeaves : {D : Type 0} → ℕ → (D → ℕ → Option (List ℕ)) → Pair → ℕ → Lease → Serving D → Serving D → Filled → Type 0
+FillLeaves size held p word lease old new (Stored pushed) = FillsStore size held p word lease pushed old new
+FillLeaves size held p word lease old new Stale = new ≡ record old { counts = counts_stale old.counts }
 
 -- A removal: it is the store's, its deed stands after the others, the copy of its key is gone, the slot of its key shows a write more, and
 -- it is counted.

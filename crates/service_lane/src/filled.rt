@@ -5,6 +5,6 @@ use record_pages::Pushed;
 pub enum Filled {
     /// The value was stored, and this became of the pair that was pushed out of memory.
     Stored(Pushed),
-    /// A key of the slot was written since the lease was given, so nothing was stored.
+    /// A key of the slot was written since the lease was given, or the lease is another key's or another lane's, so nothing was stored.
     Stale,
 }

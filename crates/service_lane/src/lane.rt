@@ -64,7 +64,7 @@ impl<D: PageDevice<PAGE>, const PAGE: usize> ServiceLane<D, PAGE> {
     ghost use Rattle.service_lane.specs.Copies.{AreCopies};
     ghost use Rattle.service_lane.specs.Serving.{asked_of, opening_to_serve, OpensServing, RefusesLane};
 
-    /// An empty lane with this many slots for leases, over a device. Its refusals are tested in the order of
+    /// An empty lane with the number 0 and this many slots for leases, over a device. Its refusals are tested in the order of
     /// `OpenLaneFault`, those of the store in that of `Store::open`, and the device is dropped with each. Its sets have room
     /// for as many strikes together as `cache_sizes::strikes_of` says; one for which there is none forgets its set.
     ///
@@ -82,7 +82,7 @@ impl<D: PageDevice<PAGE>, const PAGE: usize> ServiceLane<D, PAGE> {
               store = opening_to_serve opened.store.layout device;
               deeds = [];
               copies = None;
-              slots = no_writes seed lease_slots;
+              slots = no_writes 0 seed lease_slots;
               counts = no_counts;
             })) }
         ensures serves { OnOk result
@@ -94,14 +94,14 @@ impl<D: PageDevice<PAGE>, const PAGE: usize> ServiceLane<D, PAGE> {
             return Err(OpenLaneFault::NoLeaseSlots);
         }
         let layout = Store::layout_for(config, &device)?;
-        let Ok(lane) = Self::with_layout(alloc, &layout, lease_slots, 0, device, seed) else {
+        let Ok(lane) = Self::with_layout(alloc, &layout, lease_slots, 0, 0, device, seed) else {
             return Err(OpenLaneFault::Store(OpenFault::OutOfMemory));
         };
         Ok(lane)
     }
 
     /// An empty lane of this layout with so many slots for leases, over a device that has its pages; or `AllocError`, with which
-    /// the device is dropped. Nothing is tested again.
+    /// the device is dropped. Nothing is tested again. The number tells its leases from those of other lanes.
     ///
     /// If `bring_back` is 0 it is as `open` makes it. If not, objects come back into memory: of so many hits on flash one has its
     /// object copied. Of each four objects that the layout has in memory three are then copies. One that is pushed out enters
@@ -111,15 +111,16 @@ impl<D: PageDevice<PAGE>, const PAGE: usize> ServiceLane<D, PAGE> {
         layout: &Layout,
         lease_slots: u32,
         bring_back: u32,
+        number: u32,
         device: D,
         seed: RandomSeed,
     ) -> Result<Self, AllocError>
         requires page_size { IsPageSize PAGE }
         requires slots { 1 ≤ lease_slots }
         requires room { layout_pages layout.now ≤ D.page_count device }
-        ensures { IfOk result (OpensServing layout.now lease_slots bring_back seed device) }
+        ensures { IfOk result (OpensServing layout.now lease_slots bring_back number seed device) }
     {
-        let slots = Slots::open(alloc, seed, lease_slots)?;
+        let slots = Slots::open(alloc, number, seed, lease_slots)?;
         let asked = open_asked(alloc, layout, bring_back, device, seed)?;
         Ok(ServiceLane {
             asked,

@@ -1,6 +1,6 @@
 // The slots for leases: how many writes the keys of each have seen.
-ghost use Rattle.std.specs.Prelude.{◌≡◌, ◌<◌, ◌≤◌, ◌↔◌, length, IfOk, IsTrue};
-ghost use Rattle.service_lane.specs.Leases.{hash_by, no_writes, slot_for, writes_for, with_write_in, HoldsLease};
+ghost use Rattle.std.specs.Prelude.{◌≡◌, ◌<◌, ◌≤◌, ◌↔◌, ◌/◌, ◌%◌, ◌^◌, length, IfOk, IsTrue};
+ghost use Rattle.service_lane.specs.Leases.{hash_by, lease_for, no_writes, slot_for, with_write_in, HoldsLease};
 
 use crate::lease::Lease;
 use key_hash::RandomSeed;
@@ -12,6 +12,7 @@ use std::marker::Model;
 /// lease of it holds from then on.
 #[derive(Drop)]
 pub(crate) struct Slots {
+    lane: u32,
     seed: RandomSeed,
     writes: Vec<u64>,
 }
@@ -22,22 +23,27 @@ impl Model for Slots {
 
     ghost Value = { LeaseSlots };
 
-    ghost view = { λ s. record { seed = s.seed; writes = s.writes.items } };
+    ghost view = { λ s. record { lane = s.lane; seed = s.seed; writes = s.writes.items } };
 
     ghost invariant = { λ s. 1 ≤ length s.writes.items };
 }
 
 impl Slots {
-    /// This many slots, which have seen no write, or `AllocError` if memory was refused.
-    pub(crate) fn open(alloc: Global, seed: RandomSeed, count: u32) -> Result<Slots, AllocError>
+    /// This many slots of the lane of a number, which have seen no write, or `AllocError` if memory was refused.
+    pub(crate) fn open(
+        alloc: Global,
+        lane: u32,
+        seed: RandomSeed,
+        count: u32,
+    ) -> Result<Slots, AllocError>
         requires { 1 ≤ count }
-        ensures { IfOk result (λ slots. slots ≡ no_writes seed count) }
+        ensures { IfOk result (λ slots. slots ≡ no_writes lane seed count) }
     {
         let mut writes = Vec::with_capacity(alloc, count as usize)?;
         for _ in 0..count {
             writes.push(0)?;
         }
-        Ok(Slots { seed, writes })
+        Ok(Slots { lane, seed, writes })
     }
 
     /// How many slots there are, one at least.
@@ -50,16 +56,19 @@ impl Slots {
 
     /// A lease of a key, of now.
     pub(crate) fn lease(&self, key: &[u8]) -> Lease
-        ensures { result.writes ≡ writes_for self.now key.now }
+        ensures { result ≡ lease_for self.now key.now }
     {
+        let hash = hash_by(self.seed, key);
         Lease {
-            writes: self.writes[self.slot(key)],
+            writes: self.writes[self.slot_by(hash)],
+            hash,
+            lane: self.lane,
         }
     }
 
-    /// Whether a lease of a key has not ended.
+    /// Whether a lease is of this lane and of this key, and has not ended.
     pub(crate) fn holds(&self, key: &[u8], lease: Lease) -> bool
-        ensures { IsTrue result ↔ HoldsLease self.now key.now lease.writes }
+        ensures { IsTrue result ↔ HoldsLease self.now key.now lease }
     {
         self.lease(key) == lease && lease.writes < u64::MAX
     }
@@ -80,8 +89,15 @@ impl Slots {
         ensures slot { result ≡ slot_for self.now key.now }
         ensures within { result < length self.now.writes }
     {
-        let count = self.writes.len();
-        (hash_by(self.seed, key) >> 32) as usize % count
+        self.slot_by(hash_by(self.seed, key))
+    }
+
+    // The slot of a key with this hash.
+    fn slot_by(&self, hash: u64) -> usize
+        ensures slot { result ≡ hash / 2 ^ 32 % length self.now.writes }
+        ensures within { result < length self.now.writes }
+    {
+        (hash >> 32) as usize % self.writes.len()
     }
 }
 

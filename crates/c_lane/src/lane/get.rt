@@ -11,6 +11,7 @@ use crate::status::Status;
 use mover::AnswerKind;
 use page_device::PageDevice;
 use record_pages::{Key, ValueBuffer};
+use service_lane::Lease;
 
 impl<D: PageDevice<4096>> CLane<D> {
     /// Looks a key up. At `Done` its value stands at the front of the buffer, the rest of which is as it was; at any other status
@@ -35,41 +36,41 @@ impl<D: PageDevice<4096>> CLane<D> {
         told(seen, &self.found, into, hit)
     }
 
-    /// Looks a key up as `get` does, and leases it at a miss: `writes` becomes the number of the lease then, and stays at any
-    /// other status. The lease ends with the next put, fill or removal of the key, or of another key of its slot.
+    /// Looks a key up as `get` does, and leases it at a miss: `lease` is given then, and stays at any
+    /// other status. It ends with the next put, fill or removal of the key, or of another key of its slot.
     pub fn get_or_lease(
         &mut self,
         key: &[u8],
         moment: u64,
         into: &mut [u8],
         hit: &mut Hit,
-        writes: &mut u64,
+        lease: &mut Lease,
     ) -> Status
-        ensures answered { IsKey key.now → AnswersOrLeases (laws_of D.honest D.failures D.held) key.now moment into.old writes.old self.old
-            result self.new into.new hit.new writes.new }
+        ensures answered { IsKey key.now → AnswersOrLeases (laws_of D.honest D.failures D.held) key.now moment into.old lease.old self.old
+            result self.new into.new hit.new lease.new }
         ensures wrong_key { (IsKey key.now → ⊥) →
             RefusesGet into.old self.old result self.new into.new hit.new }
-        ensures no_lease { (IsKey key.now → ⊥) → writes.new ≡ writes.old }
+        ensures no_lease { (IsKey key.now → ⊥) → lease.new ≡ lease.old }
     {
         let status = self.get(key, moment, into, hit);
         if status.is_miss() {
-            *writes = self.lane.lease(key).writes;
+            *lease = self.lane.lease(key);
         }
         status
     }
 
     /// Leases a key, whether it is there or not: in the same hold as a get that hit it, for a fill in place of what was hit.
-    /// `Done`, and `writes` becomes the number of the lease, which ends as that of `get_or_lease` does; or `WrongKey`, which
+    /// `Done`, and `lease` is given, which ends as that of `get_or_lease` does; or `WrongKey`, which
     /// changes nothing. No memory is taken.
-    pub fn lease(&mut self, key: &[u8], writes: &mut u64) -> Status
-        ensures leased { IsKey key.now → LeasesKey key.now self.old result self.new writes.new }
+    pub fn lease(&mut self, key: &[u8], lease: &mut Lease) -> Status
+        ensures leased { IsKey key.now → LeasesKey key.now self.old result self.new lease.new }
         ensures wrong_key { (IsKey key.now → ⊥) →
-            (result ≡ Status.WrongKey) × (self.new ≡ self.old) × (writes.new ≡ writes.old) }
+            (result ≡ Status.WrongKey) × (self.new ≡ self.old) × (lease.new ≡ lease.old) }
     {
         if key.is_empty() || key.len() > Key::MAX_LEN {
             return Status::WrongKey;
         }
-        *writes = self.lane.lease(key).writes;
+        *lease = self.lane.lease(key);
         Status::Done
     }
 }

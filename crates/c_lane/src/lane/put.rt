@@ -1,7 +1,6 @@
 // Puts, fills and removals of a lane.
 ghost use Rattle.std.specs.Prelude.{◌≡◌, ◌<◌, ◌≤◌, ◌↔◌, length};
 ghost use Rattle.record_pages.specs.Bounded.{IsKey};
-ghost use Rattle.service_lane.specs.Leases.{HoldsLease};
 ghost use Rattle.c_lane.specs.Lane.{laws_of};
 ghost use Rattle.c_lane.specs.Putting.{PutLeaves, PutOrRemoveLeaves, FillLeaves, RemoveLeaves};
 
@@ -54,13 +53,13 @@ impl<D: PageDevice<4096>> CLane<D> {
         status
     }
 
-    /// Puts a value that was read elsewhere since the get of its key that gave the lease, if no put, fill or removal of the key came
-    /// between; else it is `Stale`, and nothing is stored. It may be stale without cause, since keys share slots. Its refusals
-    /// are those of `put`.
+    /// Puts a value that was read elsewhere since the get of its key that gave the lease, if that is of this lane and no put,
+    /// fill or removal of the key came between; else it is `Stale`, and nothing is stored. A lease of another key is stale, unless the two have
+    /// the same hash. It may be stale without cause, since keys share slots. Its refusals are those of `put`.
     pub fn fill(
         &mut self,
         alloc: Global,
-        writes: u64,
+        lease: &Lease,
         key: &[u8],
         value: &[u8],
         expires: u64,
@@ -68,17 +67,16 @@ impl<D: PageDevice<4096>> CLane<D> {
         ensures wrong_key { (result ≡ Status.WrongKey) ↔ (IsKey key.now → ⊥) }
         ensures too_large { (result ≡ Status.TooLarge)
             ↔ (IsKey key.now × (2048 < length value.now)) }
-        ensures leaves { FillLeaves (laws_of D.honest D.failures D.held) writes key.now value.now expires self.old result self.new }
+        ensures leaves { FillLeaves (laws_of D.honest D.failures D.held) lease.now key.now value.now expires self.old result self.new }
     {
         let object = match Object::new(alloc, key, value) {
             Ok(object) => object,
             Err(status) => return status,
         };
         let word = self.words.next_word();
-        let lease = Lease { writes };
         match self
             .lane
-            .fill(lease, object.key, object.value, word, expires)
+            .fill(*lease, object.key, object.value, word, expires)
         {
             Ok(Filled::Stored(_)) => {
                 let _helped = self.lane.help(&Rriparoo);

@@ -8,6 +8,7 @@ ghost use Rattle.mover.specs.Get.{answer_of};
 ghost use Rattle.service_lane.specs.Asked.{IsMiss};
 ghost use Rattle.trace_file.specs.declared.act.Act.{Act};
 ghost use Rattle.service_cache.specs.Refusals.{RefusesGet, RefusesPut, RefusesRemoval};
+ghost use Rattle.service_cache.specs.AtLanes.{DoneAtLane, FillsByLease};
 ghost use Rattle.service_cache.specs.Seated.{put_of};
 ghost use Rattle.service_cache.specs.declared.seat_fault.SeatPutFault.{SeatPutFault};
 ghost use Rattle.service_cache.specs.Calls.{HasExpiry, HasMissed, IsHit, kind_of, looked_up, AddsLast, FillAdds, RefusedPutAdds};
@@ -131,8 +132,8 @@ impl<
         held.put_and_help(&self.policy, seat, key, value, expires)
     }
 
-    /// Puts a value that was read elsewhere since the look-up that leased its key missed, if no put, fill or removal of the key
-    /// came between, and enters that in the list after all that the seat has seen. Otherwise it is `Stale`, and nothing
+    /// Puts a value that was read elsewhere since the look-up that leased its key missed, if the lease is of this key and no put, fill or
+    /// removal of the key came between, and enters that in the list after all that the seat has seen. Otherwise it is `Stale`, and nothing
     /// is stored or entered. It may be stale without cause, since keys share slots.
     ///
     /// If the store refuses the object, nothing is entered, and the key keeps what it had. If the book is `Full`,
@@ -149,6 +150,8 @@ impl<
     ) -> Result<Filled, SeatPutFault>
         ensures entered { IfOk result (λ filled. FillAdds seat.old (put_of key value expires) filled
             seat.new) }
+        ensures leased { IfOk result (λ filled. DoneAtLane D (L.lane_of key)
+            (FillsByLease PAGE D.honest D.failures D.held P.plan_of lease key value expires filled)) }
 
         // When it is refused, and what that leaves.
         ensures large { IsErrOf result (SeatPutFault.Put PutFault.TooLarge) → room PAGE < object_size key value }

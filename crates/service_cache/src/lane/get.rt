@@ -5,7 +5,7 @@ ghost use Rattle.record_pages.specs.Bounded.{IsKey};
 ghost use Rattle.mover.specs.Get.{answer_of};
 ghost use Rattle.service_lane.specs.Asked.{IsLiveHit, IsMiss, TellsExpiry};
 ghost use Rattle.service_lane.specs.Counting.{counts_lease};
-ghost use Rattle.service_lane.specs.Leases.{writes_for};
+ghost use Rattle.service_lane.specs.Leases.{lease_for};
 ghost use Rattle.service_lane.specs.Serving.{Gets};
 ghost use Rattle.service_cache.specs.Calls.{HasExpiry, HasMissed, IsHit, kind_of, looked_up};
 ghost use Rattle.service_cache.specs.Held.{LooksUp};
@@ -65,7 +65,7 @@ impl<D: PageDevice<PAGE>, const PAGE: usize, L: KeyLanes, J: BookName> SeatedLan
 
     /// A lease of a key, to be taken in the same hold of the lane as the get that missed.
     pub fn lease(&mut self, key: &[u8]) -> Lease
-        ensures lease { result.writes ≡ writes_for self.old.serving.slots key.now }
+        ensures lease { result ≡ lease_for self.old.serving.slots key.now }
         ensures leaves { self.new ≡ record self.old {
           serving = record self.old.serving { counts = counts_lease self.old.serving.counts };
         } }

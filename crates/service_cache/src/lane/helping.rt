@@ -68,9 +68,9 @@ impl<D: PageDevice<PAGE>, const PAGE: usize, L: KeyLanes, J: BookName> SeatedLan
     ) -> Result<Filled, SeatPutFault>
         requires { L.lane_of key ≡ self.old.register.number }
         ensures stale { (result ≡ Ok Filled.Stale)
-            ↔ (HoldsLease self.old.serving.slots key lease.writes → ⊥) }
+            ↔ (HoldsLease self.old.serving.slots key lease → ⊥) }
         ensures filled { IfOk result (λ filled. FillsOrNot PAGE D.honest D.failures D.held
-            (P.plan_of policy.now) key value expires (next_word self.old.words) lease.writes filled
+            (P.plan_of policy.now) key value expires (next_word self.old.words) lease filled
             self.old.serving self.new.serving) }
         ensures entered { IfOk result (λ filled. FillAdds seat.old (put_of key value expires) filled
             seat.new) }
@@ -80,7 +80,7 @@ impl<D: PageDevice<PAGE>, const PAGE: usize, L: KeyLanes, J: BookName> SeatedLan
         ensures large { IsErrOf result (SeatPutFault.Put PutFault.TooLarge) → room PAGE < object_size key value }
         ensures refused { OnErr result (seat.new ≡ seat.old) }
         ensures leaves { IfErr result (λ fault. FillRefusalLeaves PAGE D.held key value expires
-            (next_word self.old.words) lease.writes fault (drawn self.old) seat.old self.new seat.new) }
+            (next_word self.old.words) lease fault (drawn self.old) seat.old self.new seat.new) }
     {
         let word = self.draw();
         match self.fill(seat, lease, key, value, word, expires) {

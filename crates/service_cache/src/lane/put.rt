@@ -109,9 +109,9 @@ impl<D: PageDevice<PAGE>, const PAGE: usize, L: KeyLanes, J: BookName> SeatedLan
     ) -> Result<Filled, SeatPutFault>
         requires { L.lane_of key ≡ self.old.register.number }
         ensures stale { (result ≡ Ok Filled.Stale)
-            ↔ (HoldsLease self.old.serving.slots key lease.writes → ⊥) }
+            ↔ (HoldsLease self.old.serving.slots key lease → ⊥) }
         ensures filled { IfOk result (λ filled. FillLeaves PAGE D.held
-            (record { key = key; value = timed value expires }) word lease.writes self.old.serving
+            (record { key = key; value = timed value expires }) word lease self.old.serving
             self.new.serving filled) }
         ensures entered { IfOk result (λ filled. FillEnters L.lane_of (put_of key value expires) filled
             self.old.register seat.old self.new.register seat.new) }
@@ -122,7 +122,7 @@ impl<D: PageDevice<PAGE>, const PAGE: usize, L: KeyLanes, J: BookName> SeatedLan
             → HasNoRoom L.lane_of self.old.register }
         ensures large { IsErrOf result (SeatPutFault.Put PutFault.TooLarge) → room PAGE < object_size key value }
         ensures refused { IfErr result (λ fault. FillRefusalLeaves PAGE D.held key value expires word
-            lease.writes fault self.old seat.old self.new seat.new) }
+            lease fault self.old seat.old self.new seat.new) }
         ensures words { self.new.words ≡ self.old.words }
     {
         let copy = KeyBuffer::of(&key);

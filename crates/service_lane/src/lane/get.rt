@@ -6,7 +6,7 @@ ghost use Rattle.mover.specs.Get.{answer_of};
 ghost use Rattle.deeds.specs.Sound.{act_of};
 ghost use Rattle.service_lane.specs.Asked.{IsLiveHit, IsMiss, TellsExpiry};
 ghost use Rattle.service_lane.specs.Counting.{counts_lease};
-ghost use Rattle.service_lane.specs.Leases.{writes_for};
+ghost use Rattle.service_lane.specs.Leases.{lease_for};
 ghost use Rattle.service_lane.specs.Serving.{Gets};
 
 use super::ServiceLane;
@@ -61,7 +61,7 @@ impl<D: PageDevice<PAGE>, const PAGE: usize> ServiceLane<D, PAGE> {
     /// A lease of a key, to be taken in the same hold of the lane as the get that missed: for a fill by what is read elsewhere
     /// then. It ends with the next put, fill or removal of the key, or of another key of its slot. No memory is taken.
     pub fn lease(&mut self, key: &[u8]) -> Lease
-        ensures lease { result.writes ≡ writes_for self.old.slots key.now }
+        ensures lease { result ≡ lease_for self.old.slots key.now }
         ensures leaves { self.new ≡ record self.old { counts = counts_lease self.old.counts } }
     {
         self.counts.count(Counter::LeasesGiven);

@@ -57,10 +57,11 @@ impl<D: PageDevice<PAGE>, const PAGE: usize> ServiceLane<D, PAGE> {
         }
     }
 
-    /// Puts a value that was read elsewhere since a get of its key missed, if no put, fill or removal of the key came between;
-    /// else it is `Stale`, and nothing is stored. It may be stale without cause, since keys share slots.
+    /// Puts a value that was read elsewhere since a get of its key missed, if the lease is of this lane and of a key with the same hash, and
+    /// no put, fill or removal of the key came between; else it is `Stale`, and nothing is stored. It may be stale without cause, since
+    /// keys share slots.
     ///
-    /// It believes nothing of the lease. Whatever number that holds: if the value is stored, the key was not written after
+    /// It believes nothing of the lease. Whatever numbers that holds: if the value is stored, the key was not written after
     /// any moment at which its slot had seen that many writes; the moment at which the lease was given is one.
     pub fn fill(
         &mut self,
@@ -71,13 +72,13 @@ impl<D: PageDevice<PAGE>, const PAGE: usize> ServiceLane<D, PAGE> {
         expires: u64,
     ) -> Result<Filled, PutFault>
         ensures stale { (result ≡ Ok Filled.Stale)
-            ↔ (HoldsLease self.old.slots key lease.writes → ⊥) }
+            ↔ (HoldsLease self.old.slots key lease → ⊥) }
         ensures filled { IfOk result (FillLeaves PAGE D.held
-            (record { key = key; value = timed value expires }) word lease.writes self.old self.new) }
+            (record { key = key; value = timed value expires }) word lease self.old self.new) }
 
         // When it is refused, and what that leaves.
         ensures large { IsErrOf result PutFault.TooLarge
-            ↔ (HoldsLease self.old.slots key lease.writes × (room PAGE < object_size key value)) }
+            ↔ (HoldsLease self.old.slots key lease × (room PAGE < object_size key value)) }
         ensures refused { IfErr result (λ fault. self.new ≡ record self.old {
           counts = counts_refused_fill fault self.old.counts;
         }) }
@@ -101,9 +102,9 @@ impl<D: PageDevice<PAGE>, const PAGE: usize> ServiceLane<D, PAGE> {
         word: u32,
         expires: u64,
     ) -> Result<Pushed, PutFault>
-        ensures filled { HoldsLease self.old.slots key lease.writes → IfOk result (λ pushed.
+        ensures filled { HoldsLease self.old.slots key lease → IfOk result (λ pushed.
             FillsStore PAGE D.held (record { key = key; value = timed value expires }) word
-            lease.writes pushed self.old self.new) }
+            lease pushed self.old self.new) }
         ensures large { IsErrOf result PutFault.TooLarge ↔ (room PAGE < object_size key value) }
         ensures refused { IfErr result (λ fault. self.new ≡ record self.old {
           counts = counts_refused_fill fault self.old.counts;

@@ -9,6 +9,7 @@ use self::scripted::play;
 use super::words::place_among;
 use c_lane::{CLane as LaneOver, Hit, LaneShape, Seed, Status};
 use page_device::MemoryDevice;
+use service_lane::Lease;
 use std::alloc::Global;
 use std::test::Fail;
 use test_devices::{TextStep, is};
@@ -36,9 +37,9 @@ static EACH_STATUS: &[u8] = b"
     lease 0 ax done; fill 0 ax 6 done; fill 0 ax 7 stale
     fill 0 - 4 wrong key; fill 0 ax v*2049 too large
     remove ax done; remove - wrong key; get ax 0 absent
-    get-or-lease 1 ax absent; remove ax done; fill 1 ax 5 stale; get ax 0 absent
+    get-or-lease 1 ax absent; fill 1 bx 5 stale; remove ax done; fill 1 ax 5 stale; get ax 0 absent
     count memory_hits 6; count absent 7; count expired 1; count puts 3; count removes 3; count bytes_put 19
-    count leases_given 3; count fills_stored 2; count fills_stale 3
+    count leases_given 3; count fills_stored 2; count fills_stale 4
     count memory_objects_now 0; count log_objects_now 0
 ";
 

@@ -52,13 +52,13 @@ fn a_value_is_a_hit_in_each_tier_and_each_call_is_counted(rt: HostRuntime) -> Re
 }
 
 static LEASES: &[u8] = b"
-    # With one slot a write of any key ends a lease.
+    # With one slot a write of any key ends a lease. A lease of one key fills no other, though they share the slot.
     open 1
     lease 0 ax; fill 0 ax 1 nobody; fill 0 ax 2 stale; get ax 0 memory 1
     lease 0 ax; put ax 3 nobody; fill 0 ax 4 stale
     lease 0 ax; remove ax; fill 0 ax 5 stale; get ax 0 absent
-    lease 1 ax; put bx 6 nobody; fill 1 ax 7 stale
-    count leases-given 4; count fills-stale 4; count fills-stored 1; count fills-bytes 3; count puts-stored 2
+    lease 1 ax; fill 1 bx 5 stale; put bx 6 nobody; fill 1 ax 7 stale
+    count leases-given 4; count fills-stale 5; count fills-stored 1; count fills-bytes 3; count puts-stored 2
 ";
 
 #[test]

@@ -8,6 +8,6 @@ pub returns-clause-filled : goal.returns-clause-filled
 returns-clause-filled c = λ here.
     let a = c.args in
     let said = c.fill-status.ensures in
-    let whole : FillsOrNot page_laws a.writes a.key.now a.value.now a.expires c.deref_mut.result.now.lane c.fill-status.result c.fill-status.new.self =
+    let whole : FillsOrNot page_laws a.lease.now a.key.now a.value.now a.expires c.deref_mut.result.now.lane c.fill-status.result c.fill-status.new.self =
     record { refuses = record { wrong_key = said.wrong_key; too_large = said.too_large }; leaves = said.leaves } in
     record { status = c.fill-status.result; number_is = search rules; does_it = search rules }

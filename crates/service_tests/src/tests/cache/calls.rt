@@ -209,7 +209,7 @@ fn a_key_is_found_after_its_put_in_each_shard(rt: HostRuntime) -> Result<(), Fai
 
 static FILLED_ONCE: &[u8] = b"
     # A lease is good for one fill, whose value is found then.
-    get-or-lease ax absent; fill ax 1 nobody; fill ax 2 stale; get ax memory 1
+    get-or-lease ax absent; fill bx 2 stale; fill ax 1 nobody; fill ax 2 stale; get ax memory 1
 ";
 
 #[test]

@@ -129,7 +129,11 @@ fn kept_by_steps<D: PageDevice<256>, L: KeyLanes, J: BookName, R: Wait>(
         rt,
         cache,
         seat: cache.seat(),
-        lease: Lease { writes: 0 },
+        lease: Lease {
+            writes: 0,
+            hash: 0,
+            lane: 0,
+        },
         kept: 0,
     };
     run_text(alloc, &mut called, text)?;

@@ -7,11 +7,18 @@ use super::*;
 // How many bytes the buffer of a get has, unless the step says fewer.
 const ROOM: usize = 16;
 
+/// No lease, which fills nothing.
+pub const NO_LEASE: Lease = Lease {
+    writes: u64::MAX,
+    hash: 0,
+    lane: 0,
+};
+
 /// Makes the call of a lane that a step spells, and tells what it gives.
 pub fn call(
     alloc: Global,
     lane: &mut CLane,
-    leases: &mut [u64; 2],
+    leases: &mut [Lease; 2],
     word: &[u8],
     step: &mut TextStep<'_>,
 ) {
@@ -36,7 +43,7 @@ pub fn call(
 fn status_of(
     alloc: Global,
     lane: &mut CLane,
-    leases: &mut [u64; 2],
+    leases: &mut [Lease; 2],
     word: &[u8],
     step: &mut TextStep<'_>,
 ) -> Status {
@@ -86,12 +93,12 @@ fn place_of(step: &mut TextStep<'_>) -> usize
 }
 
 // Fills a key by a lease, once more if memory was refused.
-fn fill(alloc: Global, lane: &mut CLane, leases: &[u64; 2], step: &mut TextStep<'_>) -> Status {
-    let writes = leases[place_of(step)];
+fn fill(alloc: Global, lane: &mut CLane, leases: &[Lease; 2], step: &mut TextStep<'_>) -> Status {
+    let lease = leases[place_of(step)];
     let key = step.bytes();
     let value = step.bytes();
-    match lane.fill(alloc, writes, &key, &value, u64::MAX) {
-        Status::NoMemory => lane.fill(alloc, writes, &key, &value, u64::MAX),
+    match lane.fill(alloc, &lease, &key, &value, u64::MAX) {
+        Status::NoMemory => lane.fill(alloc, &lease, &key, &value, u64::MAX),
         status => status,
     }
 }
@@ -157,17 +164,17 @@ fn name_of_tier(tier: u32) -> &'static [u8] {
 }
 
 // Looks a key up that misses, keeps its lease, and tells the status. No byte is written.
-fn get_or_lease(lane: &mut CLane, leases: &mut [u64; 2], step: &mut TextStep<'_>) {
+fn get_or_lease(lane: &mut CLane, leases: &mut [Lease; 2], step: &mut TextStep<'_>) {
     let place = place_of(step);
     let key = step.bytes();
     let mut into = [0xeeu8; ROOM];
     let mut hit = NO_HIT;
-    let mut writes = u64::MAX;
-    let status = lane.get_or_lease(&key, 0, &mut into, &mut hit, &mut writes);
-    if writes == u64::MAX || !is_blank(&into) {
+    let mut lease = NO_LEASE;
+    let status = lane.get_or_lease(&key, 0, &mut into, &mut hit, &mut lease);
+    if lease == NO_LEASE || !is_blank(&into) {
         step.refuse();
     }
-    leases[place] = writes;
+    leases[place] = lease;
     step.tell(name_of(status));
 }
 

@@ -1,5 +1,5 @@
 //! The lane of a test's text.
-use super::run::call;
+use super::run::{NO_LEASE, call};
 use super::shapes::{complete, shape_of, tell_fault};
 use super::*;
 use test_devices::{Scripted, run_text};
@@ -8,7 +8,7 @@ use test_devices::{Scripted, run_text};
 #[derive(Drop)]
 struct Played {
     lane: Option<Box<CLane>>,
-    leases: [u64; 2],
+    leases: [Lease; 2],
 }
 
 impl Scripted for Played {
@@ -78,7 +78,7 @@ fn opened(alloc: Global, shape: &LaneShape, pages: u32) -> Result<Box<CLane>, St
 pub fn play(alloc: Global, text: &[u8]) -> Result<(), Fail> {
     let mut played = Played {
         lane: None,
-        leases: [0; 2],
+        leases: [NO_LEASE; 2],
     };
     run_text(alloc, &mut played, text)
 }

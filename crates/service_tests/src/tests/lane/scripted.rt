@@ -36,7 +36,11 @@ impl Scripted for Played {
 pub fn play(alloc: Global, text: &[u8]) -> Result<(), Fail> {
     let mut played = Played {
         lane: None,
-        leases: [Lease { writes: 0 }; 2],
+        leases: [Lease {
+            writes: 0,
+            hash: 0,
+            lane: 0,
+        }; 2],
     };
     run_text(alloc, &mut played, text)
 }

@@ -16,11 +16,11 @@ returns-then-is_miss-clause-answered g c is =
     let new : LaneState g.row.D.Denot = record { serving = c.lease.new.self; words = i.words } in
     let answers : Answers laws a.key.now a.moment a.into.now a.self.now got.result mid got.new.into got.new.hit =
     subst (λ (s : LaneState g.row.D.Denot). Answers laws a.key.now a.moment a.into.now a.self.now got.result s got.new.into got.new.hit) (sym c.self.view_is) (got.ensures.answered is) in
-    leased laws a.key.now a.moment a.into.now a.self.now got.result mid got.new.into got.new.hit a.writes.now new c.lease.result.writes answers (sym c.is_miss.ensures ∙ c.if-is_miss.true) c.lease.ensures.leaves c.lease.ensures.lease refl
+    leased laws a.key.now a.moment a.into.now a.self.now got.result mid got.new.into got.new.hit a.lease.now new c.lease.result answers (sym c.is_miss.ensures ∙ c.if-is_miss.true) c.lease.ensures.leaves c.lease.ensures.lease refl
 
 pub returns-else-is_miss-clause-answered : goal.returns-else-is_miss-clause-answered
 returns-else-is_miss-clause-answered g c is =
     let d = g.D.PageDevice in
     let a = c.args in
     let got = c.get-status in
-    unleased (laws_of d.honest d.failures d.held) a.key.now a.moment a.into.now a.self.now got.result got.new.self got.new.into got.new.hit a.writes.now (got.ensures.answered is) (sym c.is_miss.ensures ∙ c.if-is_miss.false)
+    unleased (laws_of d.honest d.failures d.held) a.key.now a.moment a.into.now a.self.now got.result got.new.self got.new.into got.new.hit a.lease.now (got.ensures.answered is) (sym c.is_miss.ensures ∙ c.if-is_miss.false)

@@ -51,7 +51,7 @@ invariant_of-self-in-Ok-Stored g c =
       seated_put lane_of i.register i.lane.deeds c.self.invariant.0 a.key a.value a.expires c.enter_or_remove.new.lane.deeds a.seat.now seat register (ap (λ s. s.deeds) c.in_default.ensures.stays ∙ stored.deeds) enters,
       said_kept g.L.KeyLanes.is_honest g.D.PageDevice.honest c.self.inside.register c.self.inside.lane register c.enter_or_remove.new.lane
           enters.number
-          (ap (λ (s : Serving g.row.D.Denot). g.D.PageDevice.honest s.store.device) c.in_default.ensures.stays ∙ fills_keep g.row.PAGE g.D.PageDevice.honest g.D.PageDevice.failures g.D.PageDevice.held a.key a.value a.expires a.word a.lease.writes c.in-Ok-Stored.pushed i.lane c.fill.new.self stored)
+          (ap (λ (s : Serving g.row.D.Denot). g.D.PageDevice.honest s.store.device) c.in_default.ensures.stays ∙ fills_keep g.row.PAGE g.D.PageDevice.honest g.D.PageDevice.failures g.D.PageDevice.held a.key a.value a.expires a.word a.lease c.in-Ok-Stored.pushed i.lane c.fill.new.self stored)
           c.self.invariant.1,
     )
 
@@ -69,7 +69,7 @@ invariant_of-self g c =
       subst (λ (r : Registered). IsSeated lane_of r after) (sym why.refused.0) undone,
       said_kept g.L.KeyLanes.is_honest g.D.PageDevice.honest c.self.inside.register c.self.inside.lane c.enter_or_remove.new.register c.enter_or_remove.new.lane
           (ap (λ (r : Registered). r.number) why.refused.0)
-          (removes_keep g.row.PAGE g.D.PageDevice.honest g.D.PageDevice.failures g.D.PageDevice.held c.bytes-bytes.result.now c.fill.new.self c.enter_or_remove.new.lane why.removed ∙ fills_keep g.row.PAGE g.D.PageDevice.honest g.D.PageDevice.failures g.D.PageDevice.held a.key a.value a.expires a.word a.lease.writes c.in-Ok-Stored.pushed i.lane c.fill.new.self stored)
+          (removes_keep g.row.PAGE g.D.PageDevice.honest g.D.PageDevice.failures g.D.PageDevice.held c.bytes-bytes.result.now c.fill.new.self c.enter_or_remove.new.lane why.removed ∙ fills_keep g.row.PAGE g.D.PageDevice.honest g.D.PageDevice.failures g.D.PageDevice.held a.key a.value a.expires a.word a.lease c.in-Ok-Stored.pushed i.lane c.fill.new.self stored)
           c.self.invariant.1,
     )
 
@@ -78,7 +78,7 @@ invariant_of-self g c =
 pub returns-in-Err-clause-stale : goal.returns-in-Err-clause-stale
 returns-in-Err-clause-stale g c =
     let fault = c.in-Err.fault in
-    subst (λ (s : Seated g.row.D.Denot). (◌≡◌ {A = Result Filled SeatPutFault} (Err (put_refusals.Put fault)) (Ok Stale)) ↔ (HoldsLease s.serving.slots c.args.key c.args.lease.writes → ⊥)) c.self.view_is
+    subst (λ (s : Seated g.row.D.Denot). (◌≡◌ {A = Result Filled SeatPutFault} (Err (put_refusals.Put fault)) (Ok Stale)) ↔ (HoldsLease s.serving.slots c.args.key c.args.lease → ⊥)) c.self.view_is
     (refused_not_stale (Err (put_refusals.Put fault)) (put_refusals.Put fault) fault _ refl c.in-Err.ensures.stale)
 
 pub returns-in-Err-clause-filled : goal.returns-in-Err-clause-filled
@@ -102,7 +102,7 @@ returns-in-Err-clause-refused g c =
     let i = c.self.inside in
     let new : Seated g.row.D.Denot = record { serving = c.fill.new.self; register = i.register; words = i.words } in
     let counted : ◌≡◌ {A = Seated g.row.D.Denot} new (record { serving = _; register = i.register; words = i.words }) = ap (λ (s : Serving g.row.D.Denot). record { serving = s; register = i.register; words = i.words }) c.in-Err.ensures.refused in
-    subst (λ (s : Seated g.row.D.Denot). FillRefusalLeaves g.row.PAGE g.D.PageDevice.held a.key a.value a.expires a.word a.lease.writes (put_refusals.Put c.in-Err.fault) s a.seat.now new a.seat.now) c.self.view_is (counted, refl)
+    subst (λ (s : Seated g.row.D.Denot). FillRefusalLeaves g.row.PAGE g.D.PageDevice.held a.key a.value a.expires a.word a.lease (put_refusals.Put c.in-Err.fault) s a.seat.now new a.seat.now) c.self.view_is (counted, refl)
 
 -- ---- it is stale
 
@@ -166,7 +166,7 @@ returns-in-Err-enter_or_remove-clause-refused g c =
     let new : Seated g.row.D.Denot = record { serving = lane; register = c.enter_or_remove.new.register; words = c.self.inside.words } in
     let stored = rw c.in-Ok-Stored.field-0-is at c.in-Ok-Stored.ensures.filled in
     let removed : Removes held a.key between lane = subst (λ (k : List ℕ). Removes held k between lane) (c.bytes-bytes.ensures.bytes ∙ c.of-copy.ensures) why.removed in
-    subst (λ (s : Seated g.row.D.Denot). FillRefusalLeaves g.row.PAGE held a.key a.value a.expires a.word a.lease.writes (put_refusals.Book c.in-Err-enter_or_remove.fault) s a.seat.now new seat) c.self.view_is
+    subst (λ (s : Seated g.row.D.Denot). FillRefusalLeaves g.row.PAGE held a.key a.value a.expires a.word a.lease (put_refusals.Book c.in-Err-enter_or_remove.fault) s a.seat.now new seat) c.self.view_is
     (record { pushed = c.in-Ok-Stored.pushed; between = between; fills = stored; removes = removed }, why.refused.0, why.refused.1)
 
 -- ---- it was entered

@@ -1,7 +1,6 @@
 -- A fill by the next word, with help after one that is stored.
 use Rattle.std.proofs.Common.{Ok, Err, Result, ◌≡◌, ◌↔◌, ◌∙◌, sym, ap, subst}
 use Rattle.record_pages.specs.Expiry.{timed}
-use Rattle.service_lane.specs.Counting.{counts_stale}
 use Rattle.service_lane.specs.Leases.{HoldsLease}
 use Rattle.service_lane.specs.Serving.{FillsStore}
 use Rattle.service_lane.specs.Words.{next_word}
@@ -23,7 +22,7 @@ fill-requires g c = (assumption, c.requires ∙ sym (ap (λ (s : Seated g.row.D.
 pub returns-in-Ok-Stored-clause-stale : goal.returns-in-Ok-Stored-clause-stale
 returns-in-Ok-Stored-clause-stale g c =
     let o = c.in-Ok-Stored in
-    subst (λ (s : Seated g.row.D.Denot). (◌≡◌ {A = Result Filled SeatPutFault} (Ok (Stored o.pushed)) (Ok Stale)) ↔ (HoldsLease s.serving.slots c.args.key c.args.lease.writes → ⊥)) c.draw-word.ensures.leaves
+    subst (λ (s : Seated g.row.D.Denot). (◌≡◌ {A = Result Filled SeatPutFault} (Ok (Stored o.pushed)) (Ok Stale)) ↔ (HoldsLease s.serving.slots c.args.key c.args.lease → ⊥)) c.draw-word.ensures.leaves
     (not_stale (Ok o.field-0) _ o.pushed _ (ap Ok o.field-0-is) o.ensures.stale (λ is. cc))
 
 pub returns-in-Ok-Stored-clause-filled : goal.returns-in-Ok-Stored-clause-filled
@@ -34,9 +33,9 @@ returns-in-Ok-Stored-clause-filled g c =
     let old = a.self.now in
     let between = c.fill.new.self.serving in
     let filled = rw o.field-0-is at o.ensures.filled in
-    let fills : FillsStore g.row.PAGE d.held (record { key = a.key; value = timed a.value a.expires }) c.draw-word.result a.lease.writes o.pushed old.serving between =
-    subst (λ (s : Seated g.row.D.Denot). FillsStore g.row.PAGE d.held (record { key = a.key; value = timed a.value a.expires }) c.draw-word.result a.lease.writes o.pushed s.serving between) c.draw-word.ensures.leaves filled in
-    fills_and_helps g.row.PAGE d.honest d.failures d.held (g.P.EvictionPolicy.plan_of a.policy.now) a.key a.value a.expires (next_word old.words) c.draw-word.result c.draw-word.ensures.word o.pushed old.serving between c.help-helped.new.self.serving c.help-helped.result c.help-helped.ensures.helps a.lease.writes fills
+    let fills : FillsStore g.row.PAGE d.held (record { key = a.key; value = timed a.value a.expires }) c.draw-word.result a.lease o.pushed old.serving between =
+    subst (λ (s : Seated g.row.D.Denot). FillsStore g.row.PAGE d.held (record { key = a.key; value = timed a.value a.expires }) c.draw-word.result a.lease o.pushed s.serving between) c.draw-word.ensures.leaves filled in
+    fills_and_helps g.row.PAGE d.honest d.failures d.held (g.P.EvictionPolicy.plan_of a.policy.now) a.key a.value a.expires (next_word old.words) c.draw-word.result c.draw-word.ensures.word o.pushed old.serving between c.help-helped.new.self.serving c.help-helped.result c.help-helped.ensures.helps a.lease fills
 
 pub returns-in-Ok-Stored-clause-entered : goal.returns-in-Ok-Stored-clause-entered
 returns-in-Ok-Stored-clause-entered g c =
@@ -81,12 +80,12 @@ returns-in-Err-clause-words g c = c.in-Err.ensures.words ∙ ap (λ (s : Seated 
 pub returns-in-Err-clause-refused : goal.returns-in-Err-clause-refused
 returns-in-Err-clause-refused g c =
     let a = c.args in
-    refused_stays g.row.PAGE g.D.PageDevice.held a.key a.value a.expires c.draw-word.result a.lease.writes c.in-Err.fault c.draw-word.new.self a.seat.now c.fill.new.self c.fill.new.seat c.in-Err.ensures.refused
+    refused_stays g.row.PAGE g.D.PageDevice.held a.key a.value a.expires c.draw-word.result a.lease c.in-Err.fault c.draw-word.new.self a.seat.now c.fill.new.self c.fill.new.seat c.in-Err.ensures.refused
 
 pub returns-in-Err-clause-leaves : goal.returns-in-Err-clause-leaves
 returns-in-Err-clause-leaves g c =
     let held = g.D.PageDevice.held in
     let a = c.args in
     let fault = c.in-Err.fault in
-    let by = subst (λ w. FillRefusalLeaves g.row.PAGE held a.key a.value a.expires w a.lease.writes fault c.draw-word.new.self a.seat.now c.fill.new.self c.fill.new.seat) c.draw-word.ensures.word c.in-Err.ensures.refused in
-    subst (λ (s : Seated g.row.D.Denot). FillRefusalLeaves g.row.PAGE held a.key a.value a.expires (next_word a.self.now.words) a.lease.writes fault s a.seat.now c.fill.new.self c.fill.new.seat) c.draw-word.ensures.leaves by
+    let by = subst (λ w. FillRefusalLeaves g.row.PAGE held a.key a.value a.expires w a.lease fault c.draw-word.new.self a.seat.now c.fill.new.self c.fill.new.seat) c.draw-word.ensures.word c.in-Err.ensures.refused in
+    subst (λ (s : Seated g.row.D.Denot). FillRefusalLeaves g.row.PAGE held a.key a.value a.expires (next_word a.self.now.words) a.lease fault s a.seat.now c.fill.new.self c.fill.new.seat) c.draw-word.ensures.leaves by

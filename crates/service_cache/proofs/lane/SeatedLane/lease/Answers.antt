@@ -1,6 +1,6 @@
 use Rattle.std.proofs.Common.{refl, List, sym, ◌∙◌, ap, subst}
 use Rattle.certificate_checker.specs.Deeds.{Deed}
-use Rattle.service_lane.specs.Leases.{writes_for}
+use Rattle.service_lane.specs.Leases.{lease_for}
 use Rattle.service_lane.specs.Serving.{Serving}
 use Rattle.service_cache.specs.Seated.{Seated, IsSeated}
 use Rattle.deed_book.specs.Registers.{Registered}
@@ -23,7 +23,7 @@ invariant_of-self g c = (
 )
 
 pub returns-clause-lease : goal.returns-clause-lease
-returns-clause-lease g c = c.lease.ensures.lease ∙ ap (λ s. writes_for s.serving.slots c.args.key.now) c.self.view_is
+returns-clause-lease g c = c.lease.ensures.lease ∙ ap (λ s. lease_for s.serving.slots c.args.key.now) c.self.view_is
 
 pub returns-clause-leaves : goal.returns-clause-leaves
 returns-clause-leaves g c =

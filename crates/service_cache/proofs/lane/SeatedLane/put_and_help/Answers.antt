@@ -3,7 +3,7 @@ use Rattle.std.proofs.Common.{◌∙◌, sym, ap, subst}
 use Rattle.record_pages.specs.Expiry.{timed}
 use Rattle.service_lane.specs.Serving.{PutsStore}
 use Rattle.service_lane.specs.Words.{next_word}
-use Rattle.service_cache.specs.Seated.{Seated, put_of, drawn, PutLeaves}
+use Rattle.service_cache.specs.Seated.{Seated, put_of, PutLeaves}
 use Rattle.service_cache.proofs.Filling.{adds_last, refused_adds}
 use Rattle.service_cache.proofs.Helping.{puts_and_helps}
 use Rattle.service_cache.proofs.lane.SeatedLane.put_and_help.Goals as goal

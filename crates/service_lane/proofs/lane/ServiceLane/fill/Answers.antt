@@ -17,15 +17,15 @@ refused_large r s f e q r_is s_is large = (λ is. (q, large.0 (cc)), λ both. le
 pub returns-in-Ok-clause-stale : goal.returns-in-Ok-clause-stale
 returns-in-Ok-clause-stale g c =
     let a = c.args in
-    let held : HoldsLease c.self.inside.slots c.bytes.result.now a.lease.writes = c.holds.ensures.0 c.if-not-holds.false in
-    let holds = subst (λ (s : Serving g.row.D.Denot). HoldsLease s.slots a.key a.lease.writes) c.self.view_is (subst (λ (k : List ℕ). HoldsLease c.self.inside.slots k a.lease.writes) c.bytes.ensures.value held) in
+    let held : HoldsLease c.self.inside.slots c.bytes.result.now a.lease = c.holds.ensures.0 c.if-not-holds.false in
+    let holds = subst (λ (s : Serving g.row.D.Denot). HoldsLease s.slots a.key a.lease) c.self.view_is (subst (λ (k : List ℕ). HoldsLease c.self.inside.slots k a.lease) c.bytes.ensures.value held) in
     (λ stale. absurd (cc), λ ended. absurd (ended holds))
 
 pub returns-in-Ok-clause-filled : goal.returns-in-Ok-clause-filled
 returns-in-Ok-clause-filled g c =
     let a = c.args in
-    let held : HoldsLease c.self.inside.slots c.bytes.result.now a.lease.writes = c.holds.ensures.0 c.if-not-holds.false in
-    let holds = subst (λ (s : Serving g.row.D.Denot). HoldsLease s.slots a.key a.lease.writes) c.self.view_is (subst (λ (k : List ℕ). HoldsLease c.self.inside.slots k a.lease.writes) c.bytes.ensures.value held) in
+    let held : HoldsLease c.self.inside.slots c.bytes.result.now a.lease = c.holds.ensures.0 c.if-not-holds.false in
+    let holds = subst (λ (s : Serving g.row.D.Denot). HoldsLease s.slots a.key a.lease) c.self.view_is (subst (λ (k : List ℕ). HoldsLease c.self.inside.slots k a.lease) c.bytes.ensures.value held) in
     c.in-Ok.ensures.filled holds
 
 pub returns-in-Ok-clause-refused : goal.returns-in-Ok-clause-refused
@@ -34,15 +34,15 @@ returns-in-Ok-clause-refused g c = tt
 pub returns-in-Ok-clause-large : goal.returns-in-Ok-clause-large
 returns-in-Ok-clause-large g c =
     let a = c.args in
-    let held : HoldsLease c.self.inside.slots c.bytes.result.now a.lease.writes = c.holds.ensures.0 c.if-not-holds.false in
-    let holds = subst (λ (s : Serving g.row.D.Denot). HoldsLease s.slots a.key a.lease.writes) c.self.view_is (subst (λ (k : List ℕ). HoldsLease c.self.inside.slots k a.lease.writes) c.bytes.ensures.value held) in
+    let held : HoldsLease c.self.inside.slots c.bytes.result.now a.lease = c.holds.ensures.0 c.if-not-holds.false in
+    let holds = subst (λ (s : Serving g.row.D.Denot). HoldsLease s.slots a.key a.lease) c.self.view_is (subst (λ (k : List ℕ). HoldsLease c.self.inside.slots k a.lease) c.bytes.ensures.value held) in
     stored_large c.fill_held.result (Ok (Stored c.in-Ok.pushed)) c.in-Ok.pushed (Stored c.in-Ok.pushed) TooLarge c.in-Ok.is refl c.fill_held.ensures.large
 
 pub returns-in-Err-clause-stale : goal.returns-in-Err-clause-stale
 returns-in-Err-clause-stale g c =
     let a = c.args in
-    let held : HoldsLease c.self.inside.slots c.bytes.result.now a.lease.writes = c.holds.ensures.0 c.if-not-holds.false in
-    let holds = subst (λ (s : Serving g.row.D.Denot). HoldsLease s.slots a.key a.lease.writes) c.self.view_is (subst (λ (k : List ℕ). HoldsLease c.self.inside.slots k a.lease.writes) c.bytes.ensures.value held) in
+    let held : HoldsLease c.self.inside.slots c.bytes.result.now a.lease = c.holds.ensures.0 c.if-not-holds.false in
+    let holds = subst (λ (s : Serving g.row.D.Denot). HoldsLease s.slots a.key a.lease) c.self.view_is (subst (λ (k : List ℕ). HoldsLease c.self.inside.slots k a.lease) c.bytes.ensures.value held) in
     (λ stale. absurd (cc), λ ended. absurd (ended holds))
 
 pub returns-in-Err-clause-filled : goal.returns-in-Err-clause-filled
@@ -54,8 +54,8 @@ returns-in-Err-clause-refused g c = c.in-Err.ensures.refused
 pub returns-in-Err-clause-large : goal.returns-in-Err-clause-large
 returns-in-Err-clause-large g c =
     let a = c.args in
-    let held : HoldsLease c.self.inside.slots c.bytes.result.now a.lease.writes = c.holds.ensures.0 c.if-not-holds.false in
-    let holds = subst (λ (s : Serving g.row.D.Denot). HoldsLease s.slots a.key a.lease.writes) c.self.view_is (subst (λ (k : List ℕ). HoldsLease c.self.inside.slots k a.lease.writes) c.bytes.ensures.value held) in
+    let held : HoldsLease c.self.inside.slots c.bytes.result.now a.lease = c.holds.ensures.0 c.if-not-holds.false in
+    let holds = subst (λ (s : Serving g.row.D.Denot). HoldsLease s.slots a.key a.lease) c.self.view_is (subst (λ (k : List ℕ). HoldsLease c.self.inside.slots k a.lease) c.bytes.ensures.value held) in
     refused_large c.fill_held.result (Err c.in-Err.fault) c.in-Err.fault TooLarge holds c.in-Err.is refl c.fill_held.ensures.large
 
 pub invariant_of-self : goal.invariant_of-self
@@ -67,9 +67,9 @@ returns-then-not-holds-clause-refused g c = tt
 pub returns-then-not-holds-clause-stale : goal.returns-then-not-holds-clause-stale
 returns-then-not-holds-clause-stale g c =
     let a = c.args in
-    let ended : HoldsLease a.self.now.slots a.key a.lease.writes → ⊥ = λ held.
-    (let here = subst (λ (s : Serving g.row.D.Denot). HoldsLease s.slots a.key a.lease.writes) (sym c.self.view_is) held in
-    let yes = c.holds.ensures.1 (subst (λ (k : List ℕ). HoldsLease c.self.inside.slots k a.lease.writes) (sym c.bytes.ensures.value) here) in
+    let ended : HoldsLease a.self.now.slots a.key a.lease → ⊥ = λ held.
+    (let here = subst (λ (s : Serving g.row.D.Denot). HoldsLease s.slots a.key a.lease) (sym c.self.view_is) held in
+    let yes = c.holds.ensures.1 (subst (λ (k : List ℕ). HoldsLease c.self.inside.slots k a.lease) (sym c.bytes.ensures.value) here) in
     let no = c.if-not-holds.true in
     absurd (cc)) in
     (λ stale. ended, λ told. refl)
@@ -77,9 +77,9 @@ returns-then-not-holds-clause-stale g c =
 pub returns-then-not-holds-clause-large : goal.returns-then-not-holds-clause-large
 returns-then-not-holds-clause-large g c =
     let a = c.args in
-    let ended : HoldsLease a.self.now.slots a.key a.lease.writes → ⊥ = λ held.
-    (let here = subst (λ (s : Serving g.row.D.Denot). HoldsLease s.slots a.key a.lease.writes) (sym c.self.view_is) held in
-    let yes = c.holds.ensures.1 (subst (λ (k : List ℕ). HoldsLease c.self.inside.slots k a.lease.writes) (sym c.bytes.ensures.value) here) in
+    let ended : HoldsLease a.self.now.slots a.key a.lease → ⊥ = λ held.
+    (let here = subst (λ (s : Serving g.row.D.Denot). HoldsLease s.slots a.key a.lease) (sym c.self.view_is) held in
+    let yes = c.holds.ensures.1 (subst (λ (k : List ℕ). HoldsLease c.self.inside.slots k a.lease) (sym c.bytes.ensures.value) here) in
     let no = c.if-not-holds.true in
     absurd (cc)) in
     (λ large. absurd (cc), λ both. absurd (ended both.0))

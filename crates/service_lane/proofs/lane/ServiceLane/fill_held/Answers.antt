@@ -31,9 +31,11 @@ returns-in-Ok-clause-filled g c held =
     let asked = c.put_counted.new.asked in
     let old : Serving g.row.D.Denot = record { store = c.self.inside.asked.store; deeds = c.self.inside.asked.deeds; copies = c.self.inside.asked.copies; slots = c.self.inside.slots; counts = counts } in
     let new : Serving g.row.D.Denot = record { store = asked.store; deeds = asked.deeds; copies = asked.copies; slots = c.put_counted.new.slots; counts = c.count_if.new.self } in
-    let put : FillsStore g.row.PAGE d.held p a.word a.lease.writes c.in-Ok.pushed old new =
+    let holds = subst (λ (s : Serving g.row.D.Denot). HoldsLease s.slots a.key a.lease) (sym c.self.view_is) held in
+    let put : FillsStore g.row.PAGE d.held p a.word a.lease c.in-Ok.pushed old new =
     record {
-      unwritten = unwritten c.self.inside.asked.deeds c.self.inside.slots a.key a.lease.writes c.count-some.ensures.some c.self.invariant (subst (λ (s : Serving g.row.D.Denot). HoldsLease s.slots a.key a.lease.writes) (sym c.self.view_is) held);
+      leased = holds;
+      unwritten = unwritten c.self.inside.asked.deeds c.self.inside.slots a.key a.lease c.count-some.ensures.some c.self.invariant holds;
       puts = c.in-Ok.ensures.puts;
       deeds = c.in-Ok.ensures.deeds;
       copies = c.in-Ok.ensures.copies;
@@ -42,7 +44,7 @@ returns-in-Ok-clause-filled g c held =
           c.count_if.ensures ∙ ap (λ k. with_one_if k c.add.new.self) c.of_pushed.ensures
           ∙ ap (with_one_if (counter_of_pushed c.in-Ok.pushed)) (c.add.ensures ∙ ap (λ n. with_more n counter.FillsBytes c.count.new.self) c.bytes_of-bytes.ensures ∙ ap (with_more (bytes_of a.key a.value) counter.FillsBytes) c.count.ensures);
     } in
-    subst (λ (s : Serving g.row.D.Denot). FillsStore g.row.PAGE d.held p a.word a.lease.writes c.in-Ok.pushed s new) c.self.view_is put
+    subst (λ (s : Serving g.row.D.Denot). FillsStore g.row.PAGE d.held p a.word a.lease c.in-Ok.pushed s new) c.self.view_is put
 
 pub returns-in-Ok-clause-large : goal.returns-in-Ok-clause-large
 returns-in-Ok-clause-large g c = c.in-Ok.ensures.puts.too_large

@@ -2,7 +2,7 @@
 use Rattle.std.proofs.Common.{ap, ◌∙◌}
 use Rattle.service_lane.specs.declared.counts.Counts.{Counts}
 use Rattle.service_lane.specs.Counting.{counts_lease}
-use Rattle.service_lane.specs.Leases.{writes_for}
+use Rattle.service_lane.specs.Leases.{lease_for}
 use Rattle.service_lane.specs.Serving.{Serving}
 use Rattle.service_lane.proofs.lane.ServiceLane.lease.Goals as goal
 
@@ -10,7 +10,7 @@ pub invariant_of-self : goal.invariant_of-self
 invariant_of-self g c = c.self.invariant
 
 pub returns-clause-lease : goal.returns-clause-lease
-returns-clause-lease g c = c.lease.ensures ∙ ap (λ (s : Serving g.row.D.Denot). writes_for s.slots c.args.key.now) c.self.view_is
+returns-clause-lease g c = c.lease.ensures ∙ ap (λ (s : Serving g.row.D.Denot). lease_for s.slots c.args.key.now) c.self.view_is
 
 pub returns-clause-leaves : goal.returns-clause-leaves
 returns-clause-leaves g c =
