@@ -134,22 +134,35 @@ kangaroo_status kangaroo_get(kangaroo_cache *cache, const void *key, size_t key_
 /* ----------------------------------------------------------------------------------------------------------- leases */
 
 /* What the words of a lease are. */
-enum { LEASE_CACHE, LEASE_WRITES, LEASE_LANE, LEASE_WORD };
+enum { LEASE_CACHE, LEASE_WRITES, LEASE_HASH, LEASE_PLACE };
 
-static kangaroo_lease lease_of(const kangaroo_cache *cache, const key_copy *key, uint64_t writes) {
+/* The place of a key in one word. */
+static uint64_t place_of(const key_copy *key) {
+    return (uint64_t)key->place.lane << 32 | key->place.word;
+}
+
+static kangaroo_lease lease_of(const kangaroo_cache *cache, const key_copy *key, const kl_leased *leased) {
     kangaroo_lease lease = {{0}};
     lease.opaque[LEASE_CACHE] = cache->number;
-    lease.opaque[LEASE_WRITES] = writes;
-    lease.opaque[LEASE_LANE] = key->place.lane;
-    lease.opaque[LEASE_WORD] = key->place.word;
+    lease.opaque[LEASE_WRITES] = leased->writes;
+    lease.opaque[LEASE_HASH] = leased->hash;
+    lease.opaque[LEASE_PLACE] = place_of(key);
     return lease;
 }
 
-/* Whether a lease is of this cache, and of this key or one with the same hash. The lane needs no belief in that: what
- * it promises of a fill holds for any number of writes. */
+/* What a lane is handed of a lease. */
+static kl_leased leased_by(const kangaroo_lease *lease) {
+    return (kl_leased){
+        .writes = lease->opaque[LEASE_WRITES],
+        .hash = lease->opaque[LEASE_HASH],
+        .lane = (uint32_t)(lease->opaque[LEASE_PLACE] >> 32),
+    };
+}
+
+/* Whether a lease is of this cache, and of this key or one in the same place. What is not is counted apart. The lane
+ * believes nothing of it: it refuses what is no lease of its key. */
 static bool is_lease_of(const kangaroo_lease *lease, const kangaroo_cache *cache, const key_copy *key) {
-    kangaroo_lease right = lease_of(cache, key, lease->opaque[LEASE_WRITES]);
-    return memcmp(lease, &right, sizeof right) == 0;
+    return lease->opaque[LEASE_CACHE] == cache->number && lease->opaque[LEASE_PLACE] == place_of(key);
 }
 
 static bool is_no_lease(const kangaroo_lease *lease) {
@@ -168,24 +181,24 @@ typedef kangaroo_status leasing(kangaroo_cache *cache, const key_copy *key, cons
 
 static kangaroo_status get_or_lease_held(kangaroo_cache *cache, const key_copy *key, const get_call *call, kl_hit *hit,
                                          kangaroo_lease *lease) {
-    uint64_t writes = 0;
+    kl_leased leased = {0};
     hold held = hold_lane(cache, key->place.lane);
     int32_t answer = kl_get_or_lease(&held.lane->lane, key->bytes, key->length, call->moment, call->into,
-                                     call->into_length, hit, &writes);
+                                     call->into_length, hit, &leased);
     kangaroo_status status = release(&held, answer);
-    if (is_miss(status)) *lease = lease_of(cache, key, writes);
+    if (is_miss(status)) *lease = lease_of(cache, key, &leased);
     return status;
 }
 
 static kangaroo_status get_and_lease_held(kangaroo_cache *cache, const key_copy *key, const get_call *call, kl_hit *hit,
                                           kangaroo_lease *lease) {
-    uint64_t writes = 0;
+    kl_leased leased = {0};
     hold held = hold_lane(cache, key->place.lane);
     int32_t answer =
         kl_get(&held.lane->lane, key->bytes, key->length, call->moment, call->into, call->into_length, hit);
-    int32_t leased = kl_lease(&held.lane->lane, key->bytes, key->length, &writes);
-    kangaroo_status status = release(&held, leased == KL_OTHER_LANE ? leased : answer);
-    if (leased == KANGAROO_OK) *lease = lease_of(cache, key, writes);
+    int32_t given = kl_lease(&held.lane->lane, key->bytes, key->length, &leased);
+    kangaroo_status status = release(&held, given == KL_OTHER_LANE ? given : answer);
+    if (given == KANGAROO_OK) *lease = lease_of(cache, key, &leased);
     return status;
 }
 
@@ -277,10 +290,10 @@ kangaroo_status kangaroo_fill(kangaroo_cache *cache, kangaroo_lease *lease, cons
     if (lease == NULL || !are_bytes(value, value_length)) return KANGAROO_WRONG_ARGUMENT;
     if (!is_lease_of(lease, cache, &copy)) return refuse_lease(cache, lease);
     value_bytes taken = take_value(value, value_length);
+    kl_leased leased = leased_by(lease);
     uint32_t is_due = 0;
     hold held = hold_lane(cache, copy.place.lane);
-    int32_t answer = kl_fill(&held.lane->lane, lease->opaque[LEASE_WRITES], copy.bytes, copy.length, taken.at,
-                             taken.length, expires, &is_due);
+    int32_t answer = kl_fill(&held.lane->lane, &leased, copy.bytes, copy.length, taken.at, taken.length, expires, &is_due);
     if (is_due != 0) hand_over(cache, copy.place.lane);
     status = release(&held, answer);
     if (status >= 0) *lease = (kangaroo_lease){{0}};

@@ -82,6 +82,13 @@ typedef struct kl_hit {
     uint32_t tier, reserved;
 } kl_hit;
 
+/* A lease of a key: how many writes its slot had seen, the hash of the key by the seed of its lane, and the number of the
+ * lane. In Rattle Lease. */
+typedef struct kl_leased {
+    uint64_t writes, hash;
+    uint32_t lane;
+} kl_leased;
+
 /* What a step did, whether it may have asked the device, and whether more is due after it: 0 or 1 each. */
 typedef struct kl_step {
     uint32_t did; /* one of kl_step_did */
@@ -136,13 +143,12 @@ void kl_close(kl_lane *lane);
 int32_t kl_get(kl_lane *lane, const uint8_t *key, size_t key_length, uint64_t moment, uint8_t *into, size_t into_length,
                kl_hit *hit);
 
-/* The same; at a miss *writes becomes the number of the lease. */
+/* The same; at a miss *lease is given. */
 int32_t kl_get_or_lease(kl_lane *lane, const uint8_t *key, size_t key_length, uint64_t moment, uint8_t *into,
-                        size_t into_length, kl_hit *hit, uint64_t *writes);
+                        size_t into_length, kl_hit *hit, kl_leased *lease);
 
-/* KANGAROO_OK: *writes is the number of a lease of the key, whether it is there or not. KANGAROO_WRONG_KEY: *writes is as
- * it was. */
-int32_t kl_lease(kl_lane *lane, const uint8_t *key, size_t key_length, uint64_t *writes);
+/* KANGAROO_OK: *lease is one of the key, whether it is there or not. KANGAROO_WRONG_KEY: *lease is as it was. */
+int32_t kl_lease(kl_lane *lane, const uint8_t *key, size_t key_length, kl_leased *lease);
 
 /* KANGAROO_OK: stored. KANGAROO_WRONG_KEY, KANGAROO_TOO_LARGE or KANGAROO_NO_MEMORY: only counters have changed. It does
  * upkeep itself if the log is nearly full. *is_due becomes 1 if upkeep is due after it, else 0, whatever it answers. */
@@ -153,8 +159,9 @@ int32_t kl_put(kl_lane *lane, const uint8_t *key, size_t key_length, const uint8
 int32_t kl_put_or_remove(kl_lane *lane, const uint8_t *key, size_t key_length, const uint8_t *value,
                          size_t value_length, uint64_t expires, uint32_t *is_due);
 
-/* KANGAROO_OK: stored. KANGAROO_STALE: only a counter has changed. Refusals, and *is_due, as of a put. */
-int32_t kl_fill(kl_lane *lane, uint64_t writes, const uint8_t *key, size_t key_length, const uint8_t *value,
+/* KANGAROO_OK: stored. KANGAROO_STALE: the lease has ended, or is of another lane or of a key with another hash, and only
+ * a counter has changed. Refusals, and *is_due, as of a put. */
+int32_t kl_fill(kl_lane *lane, const kl_leased *lease, const uint8_t *key, size_t key_length, const uint8_t *value,
                 size_t value_length, uint64_t expires, uint32_t *is_due);
 
 /* KANGAROO_OK, or KANGAROO_WRONG_KEY. */

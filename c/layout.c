@@ -62,6 +62,12 @@ FIELD(kl_hit, tier, 16, 4);
 FIELD(kl_hit, reserved, 20, 4);
 WHOLE(kl_hit, 24, 8);
 
+/* Lease, service_lane/src/lease.rt */
+FIELD(kl_leased, writes, 0, 8);
+FIELD(kl_leased, hash, 8, 8);
+FIELD(kl_leased, lane, 16, 4);
+WHOLE(kl_leased, 24, 8);
+
 /* Step, c_lane/src/step.rt */
 FIELD(kl_step, did, 0, 4);
 FIELD(kl_step, asked_device, 4, 4);

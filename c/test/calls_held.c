@@ -50,14 +50,14 @@ static void note(kl_lane *lane, int which) {
 HELD(GET, int32_t, kl_get, (kl_lane *lane, const uint8_t *key, size_t n, uint64_t moment, uint8_t *into, size_t room, kl_hit *hit),
      (lane, key, n, moment, into, room, hit))
 HELD(1, int32_t, kl_get_or_lease, (kl_lane *lane, const uint8_t *key, size_t n, uint64_t moment, uint8_t *into, size_t room,
-     kl_hit *hit, uint64_t *writes), (lane, key, n, moment, into, room, hit, writes))
-HELD(LEASE, int32_t, kl_lease, (kl_lane *lane, const uint8_t *key, size_t n, uint64_t *writes), (lane, key, n, writes))
+     kl_hit *hit, kl_leased *lease), (lane, key, n, moment, into, room, hit, lease))
+HELD(LEASE, int32_t, kl_lease, (kl_lane *lane, const uint8_t *key, size_t n, kl_leased *lease), (lane, key, n, lease))
 HELD(3, int32_t, kl_put, (kl_lane *lane, const uint8_t *key, size_t n, const uint8_t *value, size_t length, uint64_t expires,
      uint32_t *is_due), (lane, key, n, value, length, expires, is_due))
 HELD(4, int32_t, kl_put_or_remove, (kl_lane *lane, const uint8_t *key, size_t n, const uint8_t *value, size_t length,
      uint64_t expires, uint32_t *is_due), (lane, key, n, value, length, expires, is_due))
-HELD(5, int32_t, kl_fill, (kl_lane *lane, uint64_t writes, const uint8_t *key, size_t n, const uint8_t *value, size_t length,
-     uint64_t expires, uint32_t *is_due), (lane, writes, key, n, value, length, expires, is_due))
+HELD(5, int32_t, kl_fill, (kl_lane *lane, const kl_leased *lease, const uint8_t *key, size_t n, const uint8_t *value, size_t length,
+     uint64_t expires, uint32_t *is_due), (lane, lease, key, n, value, length, expires, is_due))
 HELD(6, int32_t, kl_remove, (kl_lane *lane, const uint8_t *key, size_t n), (lane, key, n))
 
 void __real_kl_upkeep_step(kl_lane *lane, kl_step *to);

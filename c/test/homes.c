@@ -32,7 +32,7 @@ static size_t key_of(uint32_t lane, char to[ROOM]) {
 typedef struct answers {
     uint8_t into[ROOM];
     kl_hit hit;
-    uint64_t writes;
+    kl_leased lease;
     uint32_t is_due;
 } answers;
 
@@ -41,11 +41,11 @@ static int32_t call(int which, kl_lane *lane, const char *text, size_t n, answer
     const uint8_t *key = (const uint8_t *)text, *value = (const uint8_t *)"value";
     switch (which) {
     case 0: return kl_get(lane, key, n, 0, to->into, ROOM, &to->hit);
-    case 1: return kl_get_or_lease(lane, key, n, 0, to->into, ROOM, &to->hit, &to->writes);
-    case 2: return kl_lease(lane, key, n, &to->writes);
+    case 1: return kl_get_or_lease(lane, key, n, 0, to->into, ROOM, &to->hit, &to->lease);
+    case 2: return kl_lease(lane, key, n, &to->lease);
     case 3: return kl_put(lane, key, n, value, 5, UINT64_MAX, &to->is_due);
     case 4: return kl_put_or_remove(lane, key, n, value, 5, UINT64_MAX, &to->is_due);
-    case 5: return kl_fill(lane, to->writes, key, n, value, 5, UINT64_MAX, &to->is_due);
+    case 5: return kl_fill(lane, &to->lease, key, n, value, 5, UINT64_MAX, &to->is_due);
     default: return kl_remove(lane, key, n);
     }
 }
@@ -83,7 +83,7 @@ static void refuses_keys_of_others(void) {
 static void takes_its_own_keys(void) {
     char key[ROOM];
     for (uint32_t number = 0; number < LANES; number++) {
-        answers is = {.writes = 0};
+        answers is = {.is_due = 0};
         size_t length = key_of(number, key);
         for (int which = 0; which < CALLS; which++) {
             int32_t answer = call(which, &lanes[number], key, length, &is);

@@ -1,5 +1,7 @@
 -- What is reported of times: of those of gets and of those of puts.
-use Rattle.std.specs.Prelude.{◌≡◌, ◌⊎◌, ◌+◌, ◌%◌, ◌<◌, ◌≤◌, ◌++◌, ◌∷◌, [], List, ℕ, length, min, Option, None, Some}
+use Rattle.std.specs.Prelude.{◌≡◌, ◌⊎◌, ◌+◌, ◌-◌, ◌%◌, ◌<◌, ◌≤◌, ◌++◌, ◌∷◌, [], List, ℕ, length, min, Option, None, Some, Bool, true, false, ◌==◌}
+use Rattle.std.specs.Time.{instant_nanos}
+use Rattle.std.specs.declared.time.Instant.{Instant}
 use Rattle.load.specs.declared.histogram.Quantiles.{Quantiles}
 use Rattle.load.specs.Cells.{longest}
 use Rattle.load.specs.Holding.{most_times}
@@ -28,15 +30,31 @@ IsNoted (Get key) time gets_before gets puts_before puts = HasOneMore time gets_
 IsNoted (Put key) time gets_before gets puts_before puts = (gets ≡ gets_before) × HasOneMore time puts_before puts
 IsNoted (Remove key) time gets_before gets puts_before puts = (gets ≡ gets_before) × (puts ≡ puts_before)
 
--- an operation adds one time, or none if the clock does not tell it
-abbrev pub IsNotedOnce : ServeOperation → List ℕ → List ℕ → List ℕ → List ℕ → Type 0
-IsNotedOnce operation gets_before gets puts_before puts =
-    ((gets ≡ gets_before) × (puts ≡ puts_before)) ⊎ ((time : ℕ) × IsNoted operation time gets_before gets puts_before puts)
+-- the nanoseconds from what the clock told first to what it told then; none if it went back
+abbrev pub nanos_between : Instant → Instant → ℕ
+nanos_between begin end = instant_nanos end - instant_nanos begin
 
--- the operation with this number adds no time, or is one of sixteen and adds one at most
+-- an operation that began when the clock told this adds the time from then to what the clock tells at its end, or none if the clock
+-- does not tell it
+abbrev pub IsNotedSince : ServeOperation → Instant → List ℕ → List ℕ → List ℕ → List ℕ → Type 0
+IsNotedSince operation begin gets_before gets puts_before puts =
+    ((gets ≡ gets_before) × (puts ≡ puts_before)) ⊎ ((end : Instant) × IsNoted operation (nanos_between begin end) gets_before gets puts_before puts)
+
+-- the same of an operation whose begin the clock may not have told: it adds none then
+abbrev pub IsNotedOnce : ServeOperation → Option Instant → List ℕ → List ℕ → List ℕ → List ℕ → Type 0
+IsNotedOnce operation None gets_before gets puts_before puts = (gets ≡ gets_before) × (puts ≡ puts_before)
+IsNotedOnce operation (Some begin) gets_before gets puts_before puts = IsNotedSince operation begin gets_before gets puts_before puts
+
+-- whether the operation with this number is timed: one of sixteen, and no removal
+abbrev pub is_timed : ServeOperation → ℕ → Bool
+is_timed (Get key) number = number % TIMED == 0
+is_timed (Put key) number = number % TIMED == 0
+is_timed (Remove key) number = false
+
+-- the operation with this number adds no time, or is one that is timed and adds one at most, from its begin to its end
 abbrev pub IsSampled : ℕ → ServeOperation → List ℕ → List ℕ → List ℕ → List ℕ → Type 0
 IsSampled number operation gets_before gets puts_before puts =
-    ((gets ≡ gets_before) × (puts ≡ puts_before)) ⊎ ((number % TIMED ≡ 0) × IsNotedOnce operation gets_before gets puts_before puts)
+    ((gets ≡ gets_before) × (puts ≡ puts_before)) ⊎ ((is_timed operation number ≡ true) × ((begin : Instant) × IsNotedSince operation begin gets_before gets puts_before puts))
 
 -- these times and those of others, as many as there may be
 abbrev pub IsJoined : List ℕ → List ℕ → List ℕ → Type 0

@@ -1,6 +1,6 @@
 // How long the calls of callers took.
-ghost use Rattle.std.specs.Prelude.{◌≡◌, IfOk, [], IsNone};
-ghost use Rattle.serve_load.specs.Times.{AreTold, IsJoined, IsNoted, IsNotedOnce};
+ghost use Rattle.std.specs.Prelude.{◌≡◌, IfOk, []};
+ghost use Rattle.serve_load.specs.Times.{AreTold, IsJoined, IsNoted, IsNotedOnce, nanos_between};
 
 use crate::report::Timed;
 use load::{Histogram, ServeOperation};
@@ -29,24 +29,31 @@ impl CallTimes {
         })
     }
 
-    /// Adds the time since an operation began, if it is known when that was and the clock tells the time.
+    /// Adds the time from the begin of an operation to now, if the clock told the one and tells the other.
     pub(crate) fn note<R: Clock>(
         &mut self,
         rt: &R,
         operation: ServeOperation,
-        start: &Option<Instant>,
+        begin: &Option<Instant>,
     )
-        ensures noted { IsNotedOnce operation self.old.gets self.new.gets self.old.puts self.new.puts }
-        ensures unknown { IsNone start.now → self.new ≡ self.old }
+        ensures { IsNotedOnce operation begin.now self.old.gets self.new.gets self.old.puts self.new.puts }
     {
-        let Some(start) = start else {
+        let Some(begin) = begin else {
             return;
         };
-        let Ok(taken) = start.elapsed(rt) else {
+        let Ok(end) = Instant::now(rt) else {
             return;
         };
-        let nanoseconds = u64::try_from(taken.as_nanos()).unwrap_or(u64::MAX);
-        self.add(operation, nanoseconds);
+        self.add_between(operation, *begin, end);
+    }
+
+    /// Adds the time from the begin of an operation to its end.
+    fn add_between(&mut self, operation: ServeOperation, begin: Instant, end: Instant)
+        ensures { IsNoted operation (nanos_between begin end)
+            self.old.gets self.new.gets self.old.puts self.new.puts }
+    {
+        let taken = end.duration_since(begin).as_nanos();
+        self.add(operation, u64::try_from(taken).unwrap_or(u64::MAX));
     }
 
     /// Adds the time that an operation took to those of its kind. Removals are not timed.

@@ -7,8 +7,7 @@ ghost use Rattle.serve_load.specs.Calls.{Does, HasEnded, IsEnded, IsOfCache, IsO
 ghost use Rattle.serve_load.specs.declared.caller_tally.CallerTally.{CallerTally};
 ghost use Rattle.serve_load.specs.Limits.{GoesOn, IsFresh, IsTimed, Stops};
 ghost use Rattle.serve_load.specs.Looking.{Finds, FindsAll};
-ghost use Rattle.serve_load.specs.Times.{IsSampled};
-ghost use Rattle.serve_load.specs.declared.call_times.TheConstants.{TIMED};
+ghost use Rattle.serve_load.specs.Times.{IsSampled, is_timed};
 ghost use Rattle.serve_load.specs.Objects.{key_of, value_of};
 
 use crate::call_times::{CallTimes, TIMED};
@@ -193,9 +192,9 @@ impl<L: KeyLanes, J: BookName> Caller<L, J> {
             times.old.gets times.new.gets times.old.puts times.new.puts }
     {
         let operation = ServeOperation::next(&mut self.generator, shared.load, shared.ranks);
-        let start = start_of(rt, operation, number);
+        let begin = begin_of(rt, operation, number);
         let step = self.make(rt, cache, shared, operation, number, found);
-        times.note(rt, operation, &start);
+        times.note(rt, operation, &begin);
         step
     }
 
@@ -453,18 +452,25 @@ fn count(made: &AtomicU64, number: u32) {
     }
 }
 
-/// When an operation with this number began, if it is one of those that are timed and the clock tells it. No removal is timed.
-fn start_of<R: Clock>(rt: &R, operation: ServeOperation, number: u32) -> Option<Instant>
-    ensures { IsSome result → number % TIMED ≡ 0 }
+/// What the clock tells at the begin of an operation with this number, if that is timed and the clock tells it.
+fn begin_of<R: Clock>(rt: &R, operation: ServeOperation, number: u32) -> Option<Instant>
+    ensures { IsSome result → is_timed operation number ≡ true }
 {
-    if number % TIMED != 0 {
-        return None;
-    }
-    if let ServeOperation::Remove(_) = operation {
+    if !is_timed(operation, number) {
         return None;
     }
     match Instant::now(rt) {
-        Ok(start) => Some(start),
+        Ok(begin) => Some(begin),
         Err(_) => None,
+    }
+}
+
+/// Whether the operation with this number is timed.
+fn is_timed(operation: ServeOperation, number: u32) -> bool
+    ensures { result ≡ is_timed operation number }
+{
+    match operation {
+        ServeOperation::Get(_) | ServeOperation::Put(_) => number % TIMED == 0,
+        ServeOperation::Remove(_) => false,
     }
 }

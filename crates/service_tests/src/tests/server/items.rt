@@ -122,7 +122,9 @@ static CELL: [u8; 19] = [
 #[test]
 fn a_cell_has_its_bytes(rt: HostRuntime) -> Result<(), Fail> {
     let head = HeadText::of(&MARKED);
-    let cell = Value::of_parts(rt.alloc(), head.bytes(), b"o", b"k").ok().ok_or("no value")?;
+    let cell = Value::of_parts(rt.alloc(), head.bytes(), b"o", b"k")
+        .ok()
+        .ok_or("no value")?;
     assert!(rt; cell.bytes() == CELL.as_slice());
     let item = CacheItem::decode(&CELL).ok_or("no cell")?;
     assert!(rt;

@@ -8,4 +8,4 @@ pub returns-clause-times : goal.returns-clause-times
 returns-clause-times g c =
     let before = c.args.times.now in
     let after = c.note.new.self in
-    subst (λ o. IsSampled c.args.number o before.gets after.gets before.puts after.puts) c.next-operation.ensures.operation (sampled c.args.number c.next-operation.result c.start_of-start.result before after c.start_of-start.ensures c.note.ensures.unknown c.note.ensures.noted)
+    subst (λ o. IsSampled c.args.number o before.gets after.gets before.puts after.puts) c.next-operation.ensures.operation (sampled c.args.number c.next-operation.result c.begin_of-begin.result before after c.begin_of-begin.ensures c.note.ensures)
