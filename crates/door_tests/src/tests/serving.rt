@@ -13,4 +13,5 @@ mod reports;
 mod seeds;
 mod stepping;
 mod times;
+mod working;
 mod wrong;

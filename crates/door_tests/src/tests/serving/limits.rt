@@ -1,7 +1,8 @@
 //! Limits of time, by a clock that tells a second more at each look. A load looks at its start and its end, and before each operation
 //! if it has a limit; no removal is timed. So of 5 seconds 4 looks tell that time is left.
 use super::over::load_over;
-use super::stepping::SteppingClock;
+use super::stepping::{SECOND, SteppingClock};
+use std::sync::atomic::AtomicU64;
 use std::test::Fail;
 
 /// Loads of removals, each with a clock of its own.
@@ -19,7 +20,7 @@ status 0; err is; begins operations 9|seconds 1.000|",
 #[test]
 fn a_load_ends_at_the_first_operation_after_its_time(rt: HostRuntime) -> Result<(), Fail> {
     for text in LIMITED {
-        load_over(&SteppingClock::new(&rt), text)?;
+        load_over(&SteppingClock::new(&rt, &AtomicU64::new(0), SECOND), text)?;
     }
     Ok(())
 }
@@ -32,5 +33,5 @@ status 0; err is; begins operations 33|seconds 7.000|; has |get-max-ns 100000000
 
 #[test]
 fn one_operation_in_sixteen_is_timed_in_nanoseconds(rt: HostRuntime) -> Result<(), Fail> {
-    load_over(&SteppingClock::new(&rt), TIMED)
+    load_over(&SteppingClock::new(&rt, &AtomicU64::new(0), SECOND), TIMED)
 }

@@ -1,4 +1,4 @@
-//! A host whose clock goes on by a step at each look.
+//! A host whose clock goes on by what is added to a number, and by a step at each look.
 use std::io;
 use std::random::RandomSource;
 use std::sync::Wait;
@@ -6,26 +6,28 @@ use std::sync::atomic::{AtomicU64, Ordering};
 use std::thread::Threads;
 use std::time::{Clock, Duration};
 
-/// A host whose clock tells a second more each time that it is asked, from 0 on. All else is asked of another host.
+/// The nanoseconds of a second.
+pub const SECOND: u64 = 1_000_000_000;
+
+/// A host whose clock tells a number of nanoseconds that others may add to, and adds a step to it each time that it is asked. All else is
+/// asked of another host.
 #[derive(Drop)]
 pub struct SteppingClock<'a, R> {
     host: &'a R,
-    looks: AtomicU64,
+    told: &'a AtomicU64,
+    step: u64,
 }
 
 impl<'a, R> SteppingClock<'a, R> {
-    /// Such a host beside another.
-    pub fn new(host: &'a R) -> Self {
-        SteppingClock {
-            host,
-            looks: AtomicU64::new(0),
-        }
+    /// Such a host beside another, whose clock tells this number.
+    pub fn new(host: &'a R, told: &'a AtomicU64, step: u64) -> Self {
+        SteppingClock { host, told, step }
     }
 }
 
 impl<'a, R> Clock for SteppingClock<'a, R> {
     fn monotonic(&self) -> io::Result<Duration> {
-        Ok(Duration::from_secs(self.looks.fetch_add(1, Ordering::SeqCst) % 4294967296))
+        Ok(Duration::from_nanos(self.told.fetch_add(self.step, Ordering::SeqCst)))
     }
 
     fn since_1970(&self) -> io::Result<Duration> {
