@@ -4,6 +4,7 @@ use mathlib.Core.List.{IsPrefix}
 use Rattle.record_pages.specs.declared.answer.Answer.{Answer}
 use Rattle.record_pages.specs.declared.answer.Answer.TheVariants as answers
 use Rattle.certificate_checker.specs.Deeds.{Deed}
+use Rattle.mover.specs.Get.{answer_of}
 use Rattle.mover.specs.declared.answer_kind.AnswerKind.{AnswerKind}
 use Rattle.mover.specs.declared.answer_kind.AnswerKind.TheVariants as kinds
 use Rattle.service_lane.specs.Asked.{IsLiveHit, TellsExpiry}
@@ -23,6 +24,14 @@ IsHit said lane_of list key moment answer = IsLiveHit (IsTrue (said (lane_of key
 -- device of the key's lane is said to be honest
 abbrev pub HasExpiry : (ℕ → Bool) → (List ℕ → ℕ) → List Deed → List ℕ → List ℕ → AnswerKind → Type 0
 HasExpiry said lane_of list key value seen = TellsExpiry (IsTrue (said (lane_of key))) list key value seen
+
+-- What a lane answered is of a list: a hit and its expiry, by whether the lane's own device is honest, and by whether that is said of
+-- the key's lane.
+pub record AnswersOf (honest : Type 0) (said : ℕ → Bool) (lane_of : List ℕ → ℕ) (list : List Deed) (key : List ℕ) (moment : ℕ) (value : List ℕ) (seen : AnswerKind) : Type 0 where
+  pub live : IsLiveHit honest list key moment (answer_of seen value)
+  pub expires : TellsExpiry honest list key value seen
+  pub hit : IsHit said lane_of list key moment (answer_of seen value)
+  pub told : HasExpiry said lane_of list key value seen
 
 -- what a look-up gave that leases a key at a miss, if this is in the buffer
 abbrev pub looked_up : LookedUp → List ℕ → Answer

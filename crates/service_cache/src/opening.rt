@@ -1,5 +1,5 @@
 // The parts of a new cache.
-ghost use Rattle.std.specs.Prelude.{◌≡◌, ◌≤◌, ◌<◌, ◌^◌, ◌+◌, All, IfOk, OnOk, IsTrue, length};
+ghost use Rattle.std.specs.Prelude.{◌≡◌, ◌≤◌, ◌<◌, ◌^◌, All, IfOk, IsTrue, length};
 ghost use Rattle.record_pages.specs.Asked.{layout_pages};
 ghost use Rattle.record_pages.specs.Sizes.{IsPageSize};
 ghost use Rattle.service_lane.specs.Words.{words_for};
@@ -51,35 +51,12 @@ pub(crate) fn lanes_over<D: PageDevice<PAGE>, const PAGE: usize, L: KeyLanes, J:
             unreachable!()
         };
         let register = book.register();
-        add_lane(&mut lanes, alloc, layout, options, device, seed, register)?;
+        let Ok(lane) = seated_over(alloc, layout, options, device, seed, register) else {
+            return Err(AllocError);
+        };
+        lanes.push(lane)?;
     }
     Ok(lanes)
-}
-
-// Adds a new lane.
-fn add_lane<D: PageDevice<PAGE>, const PAGE: usize, L: KeyLanes, J: BookName>(
-    lanes: &mut Vec<Lane<D, PAGE, L, J>>,
-    alloc: Global,
-    layout: &Layout,
-    options: &ServiceOptions,
-    device: D,
-    seed: RandomSeed,
-    register: Register<L, J>,
-) -> Result<(), AllocError>
-    requires page_size { IsPageSize PAGE }
-    requires slots { 1 ≤ options.now.lease_slots }
-    requires room { layout_pages layout.now ≤ D.page_count device }
-    requires few { L.lanes < 2 ^ 32 }
-    requires honest { IsTrue (L.is_honest register.number) → IsTrue (D.honest device) }
-    ensures added { OnOk result (length lanes.new.items ≡ length lanes.old.items + 1) }
-    ensures new { All (IsNewSeated layout.now options.now seed) lanes.old.items
-        → OnOk result (All (IsNewSeated layout.now options.now seed) lanes.new.items) }
-{
-    let Ok(lane) = seated_over(alloc, layout, options, device, seed, register) else {
-        return Err(AllocError);
-    };
-    lanes.push(lane)?;
-    Ok(())
 }
 
 // An empty lane over a device, with this register. The cache's seed gives what the lane and its

@@ -3,11 +3,11 @@ ghost use Rattle.std.specs.Prelude.{◌≡◌, IfOk, IfErr, OnOk, OnErr, IsTrue}
 ghost use mathlib.Core.List.{IsPrefix};
 ghost use Rattle.record_pages.specs.Bounded.{IsKey};
 ghost use Rattle.mover.specs.Get.{answer_of};
-ghost use Rattle.service_lane.specs.Asked.{IsLiveHit, IsMiss, TellsExpiry};
+ghost use Rattle.service_lane.specs.Asked.{IsMiss};
 ghost use Rattle.service_lane.specs.Counting.{counts_lease};
 ghost use Rattle.service_lane.specs.Leases.{lease_for};
 ghost use Rattle.service_lane.specs.Serving.{Gets};
-ghost use Rattle.service_cache.specs.Calls.{HasExpiry, HasMissed, IsHit, kind_of, looked_up};
+ghost use Rattle.service_cache.specs.Calls.{AnswersOf, HasExpiry, HasMissed, IsHit, kind_of, looked_up};
 ghost use Rattle.service_cache.specs.Held.{LooksUp};
 ghost use Rattle.service_cache.specs.Refusals.{RefusesGet};
 
@@ -33,19 +33,13 @@ impl<D: PageDevice<PAGE>, const PAGE: usize, L: KeyLanes, J: BookName> SeatedLan
         found: &mut ValueBuffer,
     ) -> Result<AnswerKind, SeatFault>
         requires { L.lane_of key.now ≡ self.old.register.number }
-        ensures live { IfOk result (λ seen. IsLiveHit (IsTrue (D.honest self.old.serving.store.device)) seat.new
-            key.now moment (answer_of seen found.new)) }
-        ensures expires { IfOk result (λ seen. TellsExpiry (IsTrue (D.honest self.old.serving.store.device))
-            seat.new key.now found.new seen) }
-        ensures hit { IfOk result (λ seen. IsHit L.is_honest L.lane_of seat.new key.now moment
-            (answer_of seen found.new)) }
-        ensures told { IfOk result (λ seen. HasExpiry L.is_honest L.lane_of seat.new key.now
-            found.new seen) }
+        ensures answers { IfOk result (AnswersOf (IsTrue (D.honest self.old.serving.store.device))
+            L.is_honest L.lane_of seat.new key.now moment found.new) }
         ensures seen { IsPrefix seat.old seat.new }
         ensures gets { IfOk result (λ seen. Gets PAGE D.honest D.failures D.held key.now moment
             (answer_of seen found.new) self.old.serving self.new.serving) }
-        ensures number { self.new.register.number ≡ self.old.register.number }
-        ensures words { self.new.words ≡ self.old.words }
+        ensures rest { (self.new.register.number ≡ self.old.register.number)
+            × (self.new.words ≡ self.old.words) }
         ensures untouched { IfOk result (λ seen. IsMiss seen → found.new ≡ found.old) }
 
         // When it is refused, and what that leaves.

@@ -4,7 +4,7 @@ use Rattle.std.specs.Prelude.{IsTrue}
 use Rattle.certificate_checker.specs.Deeds.{Deed}
 use Rattle.mover.specs.Get.{answer_of}
 use Rattle.service_lane.specs.Serving.{Serving, Gets}
-use Rattle.service_lane.specs.Asked.{IsLiveHit, TellsExpiry}
+use Rattle.service_cache.specs.Calls.{AnswersOf}
 use Rattle.service_cache.specs.Seated.{Seated, IsSeated}
 use Rattle.service_cache.proofs.Seating.{seated_look, seated_read, seated_live, seated_expiry}
 use Rattle.service_cache.proofs.Refusing.{is_key}
@@ -52,12 +52,6 @@ invariant_of-self-2 g c =
 
 -- ---- the register could not look
 
-pub returns-in_default-clause-live : goal.returns-in_default-clause-live
-returns-in_default-clause-live g c = tt
-
-pub returns-in_default-clause-expires : goal.returns-in_default-clause-expires
-returns-in_default-clause-expires g c = tt
-
 pub returns-in_default-clause-gets : goal.returns-in_default-clause-gets
 returns-in_default-clause-gets g c = tt
 
@@ -67,8 +61,11 @@ returns-in_default-clause-untouched g c = tt
 pub returns-in_default-clause-answered : goal.returns-in_default-clause-answered
 returns-in_default-clause-answered g c = tt
 
-pub returns-in_default-clause-number : goal.returns-in_default-clause-number
-returns-in_default-clause-number g c = ap (λ (r : Registered). r.number) c.in_default.ensures.refused.0 ∙ ap (λ s. s.register.number) c.self.view_is
+pub returns-in_default-clause-answers : goal.returns-in_default-clause-answers
+returns-in_default-clause-answers g c = tt
+
+pub returns-in_default-clause-rest : goal.returns-in_default-clause-rest
+returns-in_default-clause-rest g c = (ap (λ (r : Registered). r.number) c.in_default.ensures.refused.0 ∙ ap (λ s. s.register.number) c.self.view_is, ap (λ s. s.words) c.self.view_is)
 
 pub returns-in_default-clause-cause : goal.returns-in_default-clause-cause
 returns-in_default-clause-cause g c = c.foreign.ensures.get
@@ -77,12 +74,6 @@ pub returns-in_default-clause-refused : goal.returns-in_default-clause-refused
 returns-in_default-clause-refused g c = (ap (λ s. s.serving) c.self.view_is, refl)
 
 -- ---- the bytes are no key's
-
-pub returns-in-Err-clause-live : goal.returns-in-Err-clause-live
-returns-in-Err-clause-live g c = tt
-
-pub returns-in-Err-clause-expires : goal.returns-in-Err-clause-expires
-returns-in-Err-clause-expires g c = tt
 
 pub returns-in-Err-clause-gets : goal.returns-in-Err-clause-gets
 returns-in-Err-clause-gets g c = tt
@@ -96,8 +87,11 @@ returns-in-Err-clause-answered g c = tt
 pub returns-in-Err-clause-seen : goal.returns-in-Err-clause-seen
 returns-in-Err-clause-seen g c = subst (λ (seen : List Deed). IsPrefix c.args.seat.now seen) (sym c.in-Ok.ensures.seen.both) c.in-Ok.ensures.seen.seen
 
-pub returns-in-Err-clause-number : goal.returns-in-Err-clause-number
-returns-in-Err-clause-number g c = c.in-Ok.ensures.seen.number ∙ ap (λ s. s.register.number) c.self.view_is
+pub returns-in-Err-clause-answers : goal.returns-in-Err-clause-answers
+returns-in-Err-clause-answers g c = tt
+
+pub returns-in-Err-clause-rest : goal.returns-in-Err-clause-rest
+returns-in-Err-clause-rest g c = (c.in-Ok.ensures.seen.number ∙ ap (λ s. s.register.number) c.self.view_is, ap (λ s. s.words) c.self.view_is)
 
 pub returns-in-Err-clause-cause : goal.returns-in-Err-clause-cause
 returns-in-Err-clause-cause g c =
@@ -111,26 +105,29 @@ returns-in-Err-clause-refused g c =
 
 -- ---- the lane answered
 
-pub returns-clause-live : goal.returns-clause-live
-returns-clause-live g c =
+pub returns-clause-answers : goal.returns-clause-answers
+returns-clause-answers g c =
     let lane_of = g.L.KeyLanes.lane_of in
+    let said = g.L.KeyLanes.is_honest in
     let honest = g.D.PageDevice.honest in
     let a = c.args in
     let i = c.self.inside in
-    let answer = answer_of c.in-Ok-get.seen c.get.new.found in
+    let o = c.in-Ok-get in
+    let seat = c.look.new.seat in
+    let found = c.get.new.found in
+    let answer = answer_of o.seen found in
+    let is = honest i.lane.store.device in
     let ours : lane_of a.key.now ≡ i.register.number = c.requires ∙ sym (ap (λ s. s.register.number) c.self.view_is) in
-    subst (λ (s : Seated g.row.D.Denot). IsLiveHit (IsTrue (honest s.serving.store.device)) c.look.new.seat a.key.now a.moment answer) c.self.view_is
-    (seated_live lane_of i.register i.lane.deeds c.self.invariant.0 (IsTrue (honest i.lane.store.device)) a.seat.now c.look.new.seat c.look.new.self a.key.now a.moment answer c.in-Ok.ensures.seen ours c.in-Ok-get.ensures.gets.live)
-
-pub returns-clause-expires : goal.returns-clause-expires
-returns-clause-expires g c =
-    let lane_of = g.L.KeyLanes.lane_of in
-    let honest = g.D.PageDevice.honest in
-    let a = c.args in
-    let i = c.self.inside in
-    let ours : lane_of a.key.now ≡ i.register.number = c.requires ∙ sym (ap (λ s. s.register.number) c.self.view_is) in
-    subst (λ (s : Seated g.row.D.Denot). TellsExpiry (IsTrue (honest s.serving.store.device)) c.look.new.seat a.key.now c.get.new.found c.in-Ok-get.seen) c.self.view_is
-    (seated_expiry lane_of i.register i.lane.deeds c.self.invariant.0 (IsTrue (honest i.lane.store.device)) a.seat.now c.look.new.seat c.look.new.self a.key.now c.get.new.found c.in-Ok-get.seen c.in-Ok.ensures.seen ours c.in-Ok-get.ensures.expires)
+    let live = seated_live lane_of i.register i.lane.deeds c.self.invariant.0 (IsTrue is) a.seat.now seat c.look.new.self a.key.now a.moment answer c.in-Ok.ensures.seen ours o.ensures.gets.live in
+    let expires = seated_expiry lane_of i.register i.lane.deeds c.self.invariant.0 (IsTrue is) a.seat.now seat c.look.new.self a.key.now found o.seen c.in-Ok.ensures.seen ours o.ensures.expires in
+    let answers : AnswersOf (IsTrue is) said lane_of seat a.key.now a.moment found o.seen =
+    record {
+      live = live;
+      expires = expires;
+      hit = hit_as_said said lane_of a.key.now i.register.number is ours c.self.invariant.1 seat a.moment answer live;
+      told = expiry_as_said said lane_of a.key.now i.register.number is ours c.self.invariant.1 seat found o.seen expires;
+    } in
+    subst (λ (s : Seated g.row.D.Denot). AnswersOf (IsTrue (honest s.serving.store.device)) said lane_of seat a.key.now a.moment found o.seen) c.self.view_is answers
 
 pub returns-clause-gets : goal.returns-clause-gets
 returns-clause-gets g c =
@@ -143,8 +140,8 @@ returns-clause-untouched g c = c.in-Ok-get.ensures.untouched
 pub returns-clause-seen : goal.returns-clause-seen
 returns-clause-seen g c = subst (λ (seen : List Deed). IsPrefix c.args.seat.now seen) (sym c.in-Ok.ensures.seen.both) c.in-Ok.ensures.seen.seen
 
-pub returns-clause-number : goal.returns-clause-number
-returns-clause-number g c = c.in-Ok.ensures.seen.number ∙ ap (λ s. s.register.number) c.self.view_is
+pub returns-clause-rest : goal.returns-clause-rest
+returns-clause-rest g c = (c.in-Ok.ensures.seen.number ∙ ap (λ s. s.register.number) c.self.view_is, ap (λ s. s.words) c.self.view_is)
 
 pub returns-clause-answered : goal.returns-clause-answered
 returns-clause-answered g c = is_key c.in-Ok-get.seen c.args.key.now c.in-Ok-get.ensures.empty c.in-Ok-get.ensures.too_long
@@ -157,47 +154,3 @@ returns-clause-refused g c = tt
 
 pub get-requires : goal.get-requires
 get-requires g c = lane_fits (param 0 g.row.D) (param 1 (number g.row.PAGE)) (param 2 g.row.L) (param 3 g.row.J) g.D.PageDevice g.L.KeyLanes g.J.BookName assumption
-
-pub returns-in_default-clause-words : goal.returns-in_default-clause-words
-returns-in_default-clause-words g c = ap (λ s. s.words) c.self.view_is
-
-pub returns-in-Err-clause-words : goal.returns-in-Err-clause-words
-returns-in-Err-clause-words g c = ap (λ s. s.words) c.self.view_is
-
-pub returns-clause-words : goal.returns-clause-words
-returns-clause-words g c = ap (λ s. s.words) c.self.view_is
-
-pub returns-in_default-clause-hit : goal.returns-in_default-clause-hit
-returns-in_default-clause-hit g c = tt
-
-pub returns-in_default-clause-told : goal.returns-in_default-clause-told
-returns-in_default-clause-told g c = tt
-
-pub returns-in-Err-clause-hit : goal.returns-in-Err-clause-hit
-returns-in-Err-clause-hit g c = tt
-
-pub returns-in-Err-clause-told : goal.returns-in-Err-clause-told
-returns-in-Err-clause-told g c = tt
-
--- ---- and as is said of the key's lane
-
-pub returns-clause-hit : goal.returns-clause-hit
-returns-clause-hit g c =
-    let lane_of = g.L.KeyLanes.lane_of in
-    let honest = g.D.PageDevice.honest in
-    let a = c.args in
-    let i = c.self.inside in
-    let answer = answer_of c.in-Ok-get.seen c.get.new.found in
-    let ours : lane_of a.key.now ≡ i.register.number = c.requires ∙ sym (ap (λ s. s.register.number) c.self.view_is) in
-    hit_as_said g.L.KeyLanes.is_honest lane_of a.key.now i.register.number (honest i.lane.store.device) ours c.self.invariant.1 c.look.new.seat a.moment answer
-    (seated_live lane_of i.register i.lane.deeds c.self.invariant.0 (IsTrue (honest i.lane.store.device)) a.seat.now c.look.new.seat c.look.new.self a.key.now a.moment answer c.in-Ok.ensures.seen ours c.in-Ok-get.ensures.gets.live)
-
-pub returns-clause-told : goal.returns-clause-told
-returns-clause-told g c =
-    let lane_of = g.L.KeyLanes.lane_of in
-    let honest = g.D.PageDevice.honest in
-    let a = c.args in
-    let i = c.self.inside in
-    let ours : lane_of a.key.now ≡ i.register.number = c.requires ∙ sym (ap (λ s. s.register.number) c.self.view_is) in
-    expiry_as_said g.L.KeyLanes.is_honest lane_of a.key.now i.register.number (honest i.lane.store.device) ours c.self.invariant.1 c.look.new.seat c.get.new.found c.in-Ok-get.seen
-    (seated_expiry lane_of i.register i.lane.deeds c.self.invariant.0 (IsTrue (honest i.lane.store.device)) a.seat.now c.look.new.seat c.look.new.self a.key.now c.get.new.found c.in-Ok-get.seen c.in-Ok.ensures.seen ours c.in-Ok-get.ensures.expires)

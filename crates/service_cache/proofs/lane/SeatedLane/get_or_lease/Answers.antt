@@ -13,12 +13,12 @@ use Rattle.service_cache.proofs.lane.SeatedLane.get_or_lease.Goals as goal
 pub returns-in-Ok-Hit-clause-live : goal.returns-in-Ok-Hit-clause-live
 returns-in-Ok-Hit-clause-live g c =
     let o = c.in-Ok-Hit in
-    subst (λ (s : AnswerKind). IsHit g.L.KeyLanes.is_honest g.L.KeyLanes.lane_of c.get.new.seat c.args.key.now c.args.moment (answer_of s c.get.new.found)) o.field-0-is o.ensures.hit
+    subst (λ (s : AnswerKind). IsHit g.L.KeyLanes.is_honest g.L.KeyLanes.lane_of c.get.new.seat c.args.key.now c.args.moment (answer_of s c.get.new.found)) o.field-0-is o.ensures.answers.hit
 
 pub returns-in-Ok-Hit-clause-expires : goal.returns-in-Ok-Hit-clause-expires
 returns-in-Ok-Hit-clause-expires g c =
     let o = c.in-Ok-Hit in
-    subst (λ (s : AnswerKind). HasExpiry g.L.KeyLanes.is_honest g.L.KeyLanes.lane_of c.get.new.seat c.args.key.now c.get.new.found s) o.field-0-is o.ensures.told
+    subst (λ (s : AnswerKind). HasExpiry g.L.KeyLanes.is_honest g.L.KeyLanes.lane_of c.get.new.seat c.args.key.now c.get.new.found s) o.field-0-is o.ensures.answers.told
 
 pub returns-in-Ok-Hit-clause-looks : goal.returns-in-Ok-Hit-clause-looks
 returns-in-Ok-Hit-clause-looks g c =
@@ -54,9 +54,15 @@ returns-in-Ok-Miss-clause-looks g c =
     }
 
 pub returns-in-Ok-Miss-clause-words : goal.returns-in-Ok-Miss-clause-words
-returns-in-Ok-Miss-clause-words g c = ap (λ (s : Seated g.row.D.Denot). s.words) c.lease.ensures.leaves ∙ c.in-Ok-Miss.ensures.words
+returns-in-Ok-Miss-clause-words g c = ap (λ (s : Seated g.row.D.Denot). s.words) c.lease.ensures.leaves ∙ c.in-Ok-Miss.ensures.rest.1
 
 pub returns-in-Ok-Miss-clause-untouched : goal.returns-in-Ok-Miss-clause-untouched
 returns-in-Ok-Miss-clause-untouched g c =
     let o = c.in-Ok-Miss in
     subst (λ (s : AnswerKind). IsMiss s → c.get.new.found ≡ c.args.found.now) o.field-0-is o.ensures.untouched
+
+pub returns-in-Ok-Hit-clause-words : goal.returns-in-Ok-Hit-clause-words
+returns-in-Ok-Hit-clause-words g c = c.in-Ok-Hit.ensures.rest.1
+
+pub returns-in-Err-clause-words : goal.returns-in-Err-clause-words
+returns-in-Err-clause-words g c = c.in-Err.ensures.rest.1
