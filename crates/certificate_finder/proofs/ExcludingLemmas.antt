@@ -1,9 +1,10 @@
 -- Why a hit can have read no put.
 use Rattle.std.proofs.Common.{◌≡◌, ℕ, ◌+◌, ◌-◌, ◌^◌, ◌<◌, ◌≤◌, ◌⊎◌, zero, suc, Bool, true, false, Option, Some, None, List, [], ◌∷◌, ◌++◌, drop, get_or, length, take, refl, sym, ap, ◌∙◌, subst, arith, inl, inr}
-use Rattle.std.specs.Prelude.{All, Contains, map, nat_lt, slice_get, MatchOption}
+use Rattle.std.specs.Prelude.{◌≢◌, All, AllPairs, Contains, map, nat_lt, slice_get, MatchOption}
 use Rattle.std.proofs.lemmas.Bool.{cases_eq, cases_lt, ltb-false, ltb-true}
 use Rattle.std.proofs.lemmas.List.{get_or-drop, length-drop, map_push, take_more}
-use Rattle.std.proofs.lemmas.List.Elements.{All-nil, All-push, Contains-append_left, Contains-push}
+use Rattle.std.proofs.lemmas.List.Elements.{All-nil, All-push, All-weaker, Contains-append_left, Contains-push}
+use Rattle.std.proofs.lemmas.List.Quantifiers.{all_pairs_push}
 use Rattle.std.proofs.lemmas.Option.{get_or_from_slice_get, slice_get_within}
 use Rattle.certificate_finder.specs.declared.excluded.Excluded.{Excluded}
 use Rattle.certificate_finder.specs.declared.excluded.Excuse.{Excuse}
@@ -14,15 +15,22 @@ use Rattle.certificate_finder.specs.Excluding.{AreExcluded, AreLike, ExcludesSte
 use Rattle.certificate_finder.specs.Lists.{TellsOne}
 use Rattle.certificate_finder.specs.Owning.{ReadsNoLive}
 use Rattle.certificate_finder.specs.Putting.{AreInOrder, ArePuts, EndsOver, IsFitPut, IsOver, Putting, TellsPut, put_rank, value_rank}
+use Rattle.certificate_finder.specs.Witnesses.{NamePutsOnce}
 use Rattle.certificate_finder.specs.Writing.{IsSplit, IsSplitBelow}
 use Rattle.certificate_finder.proofs.EndLemmas.{found_at}
-use Rattle.certificate_finder.proofs.Listing.{all_at, index_of, same_at}
+use Rattle.certificate_finder.proofs.Listing.{all_at, index_of, pair_at, same_at}
 use Rattle.certificate_finder.proofs.OwnLemmas.{may_read}
 use Rattle.certificate_finder.proofs.Ranking.{squeezed_key, squeezed_value}
+
+-- a put below an index
+abbrev pub NamesBelow : List Put → ℕ → Excluded → Type 0
+NamesBelow puts upto excluded = (k : ℕ) × (put : Put) × (k < upto) × (slice_get puts k ≡ Some put) × (put.position ≡ excluded.put)
 
 pub record ExcludedSoFar (steps : List NumberedCall) (puts : List Put) (hit : NumberedCall) (upto : ℕ) (excluded : List Excluded) : Type 0 where
   pub each : All (IsExcludedStep steps hit) excluded
   pub all : (k : ℕ) (put : Put) → k < upto → slice_get puts k ≡ Some put → put.key ≡ hit.key → put.value ≡ hit.value → Contains (map (λ one. one.put) excluded) put.position
+  pub below : All (NamesBelow puts upto) excluded
+  pub once : NamePutsOnce excluded
 
 greater : (k v s : ℕ) → value_rank k v s < value_rank k v 0 → ⊥
 greater k v s less = omega arith
@@ -35,6 +43,8 @@ pub excluded_begin : (steps : List NumberedCall) (puts : List Put) (hit : Number
 excluded_begin steps puts hit from split = record {
   each = All-nil (IsExcludedStep steps hit);
   all = λ k put less at key value. absurd (greater hit.key hit.value put.start (subst (λ v. value_rank hit.key v put.start < value_rank hit.key hit.value 0) value (subst (λ l. value_rank l put.value put.start < value_rank hit.key hit.value 0) key (split.low k put less at))));
+  below = All-nil (NamesBelow puts from);
+  once = λ i j d less within. absurd (omega arith);
 }
 
 -- a put between is of the key and value
@@ -76,6 +86,9 @@ module _ (steps : List NumberedCall) (puts : List Put) (are : ArePuts steps puts
   excludes p step put Expired at is told key value why =
       none p step at (may_read steps p step hit put is told (record { key = key; value = value; begun = why.0; stands = stands_still p step put told why.1 }))
 
+  still_below : (upto : ℕ) (excluded : Excluded) → NamesBelow puts upto excluded → NamesBelow puts (upto + 1) excluded
+  still_below upto excluded is = let less : is.0 < upto = is.2 in (is.0, is.1, omega arith, is.3, is.4)
+
   pub excluded_more : (upto : ℕ) (put : Put) (why : Excuse) (excluded : List Excluded) → ExcludedSoFar steps puts hit upto excluded → slice_get puts upto ≡ Some put → (put.key ≡ hit.key) × (put.value ≡ hit.value) → IsExcuse put hit why → ExcludedSoFar steps puts hit (upto + 1) (excluded ++ record { put = put.position; why = why } ∷ [])
   excluded_more upto put why excluded had at like is =
       let t : TellsOne steps Putting (TellsPut steps) put = all_at (TellsOne steps Putting (TellsPut steps)) puts upto put are.lists.sound at in
@@ -92,6 +105,10 @@ module _ (steps : List NumberedCall) (puts : List Put) (are : ArePuts steps puts
           | inl same ↦ let e = same_at puts upto k put other (sym same) at other_at in subst (λ (o : Put). Contains (map (λ (one : Excluded). one.put) excluded ++ put.position ∷ []) o.position) e (Contains-push (map (λ (one : Excluded). one.put) excluded) put.position)
           | inr before ↦ Contains-append_left (map (λ (one : Excluded). one.put) excluded) (put.position ∷ []) other.position (had.all k other (omega arith) other_at key value)
         ]);
+        below = All-push (NamesBelow puts (upto + 1)) excluded (record { put = put.position; why = why }) (All-weaker (NamesBelow puts upto) (NamesBelow puts (upto + 1)) (still_below upto) excluded had.below) (upto, put, omega arith, at, refl);
+        once = all_pairs_push (λ (one other : Excluded). one.put ≢ other.put) excluded (record { put = put.position; why = why }) had.once (λ k d less same.
+            let b = had.below k d less in
+            pair_at (λ (one other : Put). one.position ≢ other.position) puts b.0 upto b.1 put are.in_order.distinct b.2 b.3 at (b.4 ∙ same));
       }
 
   -- no put after those of the hit's key and value is of them
@@ -108,6 +125,7 @@ module _ (steps : List NumberedCall) (puts : List Put) (are : ArePuts steps puts
           | inl less ↦ subst (λ q. Contains (map (λ (one : Excluded). one.put) excluded) q) t.told.is_at (had.all k.0 t.item (omega arith) k.1 key value)
           | inr behind ↦ absurd (lesser hit.key hit.value t.item.start fit.start (subst (λ v. value_rank hit.key hit.value 18446744073709551615 < value_rank hit.key v t.item.start) value (subst (λ l. value_rank hit.key hit.value 18446744073709551615 < value_rank l t.item.value t.item.start) key (split.high k.0 t.item (omega arith) k.1))))
         ];
+    once = had.once;
   }
 
 -- ---- the puts of the key and value, by their indexes

@@ -306,6 +306,7 @@ module _ (history : List Call) (steps : List NumberedCall) (are : AreSteps histo
               key = alike.keys.1 key;
               value = alike.values.1 (ap value_of put_is ∙ sym (ap value_of hv.2));
             });
+        once = is.puts.once;
       }
 
   -- ---- two writes that are crossed

@@ -1,7 +1,7 @@
 -- Hits that would cross two writes whichever put they read, in numbers and of their history.
 use Rattle.std.proofs.Common.{◌≡◌, ℕ, ◌+◌, ◌<◌, ◌≤◌, Bool, true, false, Option, None, Some, List, [], ◌∷◌, ◌++◌, length, refl, sym, ap, ◌∙◌, subst, arith, inl, inr, get_or}
 use Rattle.std.specs.Option.{option_map}
-use Rattle.std.specs.Prelude.{All, AllPairs, Contains, IsSomeAnd, IsTrue, MatchOption, slice_get}
+use Rattle.std.specs.Prelude.{◌≢◌, All, AllPairs, Contains, IsSomeAnd, IsTrue, MatchOption, slice_get}
 use Rattle.std.proofs.lemmas.Bool.{cases_eq, cases_lt}
 use Rattle.std.proofs.lemmas.List.{length-map, map_push}
 use Rattle.std.proofs.lemmas.List.Elements.{All-contains, All-nil, All-push, All-weaker, Contains-append_left, Contains-push}
@@ -36,7 +36,7 @@ use Rattle.trace_file.specs.Kinds.{IsWriting}
 use Rattle.certificate_finder.specs.Steps.{AreSteps}
 use Rattle.certificate_finder.specs.Trying.{AreSure}
 use Rattle.certificate_finder.specs.Turns.{end_at}
-use Rattle.certificate_finder.specs.Unreading.{AreReadsFrom, AreUnreadOf, AreUnreadUpto, HasOpen, IsBelow, IsCrossedIf, IsCrossedRead, IsFirstUnreadIn, IsFirstUnreadOf, IsLookedAt, IsShortUnread, IsUnreadIn, puts_in}
+use Rattle.certificate_finder.specs.Unreading.{AreReadsFrom, AreUnreadOf, AreUnreadUpto, HasOpen, IsBelow, IsCrossedIf, IsCrossedRead, IsFirstUnreadIn, IsFirstUnreadOf, IsLookedAt, IsPutFrom, IsShortUnread, IsUnreadIn, puts_in}
 use Rattle.certificate_finder.specs.Witnesses.{AreCrossedIfRead, GoesIfRead, GoesWith, IsUnread, IsUnreadBy, PrecedesAt}
 use Rattle.certificate_finder.specs.Zones.{AreUncrossed, Goes}
 use Rattle.certificate_finder.proofs.EndLemmas.{found_at}
@@ -54,21 +54,28 @@ module _ (steps : List NumberedCall) (owners : List ℕ) (hit : ℕ) (puts : Lis
   reads_begin from none = record {
     each = All-nil (IsCrossedRead steps owners hit);
     all = λ k put low at reads. absurd (none k put low at reads);
+    beyond = All-nil (IsPutFrom puts from);
+    once = λ i j d less within. absurd (omega arith);
   }
 
+  from_earlier : (link from : ℕ) (writes : CrossedWrites) → link ≤ from → IsPutFrom puts from writes → IsPutFrom puts link writes
+  from_earlier link from writes back is = let le : from ≤ is.0 = is.2 in (is.0, is.1, omega arith, is.3, is.4)
+
   -- puts that the hit can't have read change nothing
-  pub reads_skip : (link from : ℕ) (reads : List CrossedWrites) → ((k : ℕ) (put : Put) → link ≤ k → k < from → slice_get puts k ≡ Some put → ¬ ReadsIn steps hit put.position) → AreReadsFrom steps owners hit puts from reads → AreReadsFrom steps owners hit puts link reads
-  reads_skip link from reads none had = record {
+  pub reads_skip : (link from : ℕ) (reads : List CrossedWrites) → link ≤ from → ((k : ℕ) (put : Put) → link ≤ k → k < from → slice_get puts k ≡ Some put → ¬ ReadsIn steps hit put.position) → AreReadsFrom steps owners hit puts from reads → AreReadsFrom steps owners hit puts link reads
+  reads_skip link from reads back none had = record {
     each = had.each;
     all = λ k put low at can. elim (cases_lt k from) [
       | inl below ↦ absurd (none k put low below at can)
       | inr not ↦ had.all k put not at can
     ];
+    beyond = All-weaker (IsPutFrom puts from) (IsPutFrom puts link) (λ writes is. from_earlier link from writes back is) reads had.beyond;
+    once = had.once;
   }
 
   -- one put more is listed
-  pub reads_more : (index from : ℕ) (put : Put) (reads new : List CrossedWrites) (writes : CrossedWrites) → from ≡ index + 1 → slice_get puts index ≡ Some put → ReadsIn steps hit put.position → IsCrossedIf steps owners hit put.position writes → new ≡ reads ++ writes ∷ [] → AreReadsFrom steps owners hit puts from reads → AreReadsFrom steps owners hit puts index new
-  reads_more index from put reads new writes next at can crossed is had =
+  pub reads_more : AllPairs (λ (one other : Put). one.position ≢ other.position) puts → (index from : ℕ) (put : Put) (reads new : List CrossedWrites) (writes : CrossedWrites) → from ≡ index + 1 → slice_get puts index ≡ Some put → ReadsIn steps hit put.position → IsCrossedIf steps owners hit put.position writes → new ≡ reads ++ writes ∷ [] → AreReadsFrom steps owners hit puts from reads → AreReadsFrom steps owners hit puts index new
+  reads_more distinct index from put reads new writes next at can crossed is had =
       let same = crossed.write in
       let positions : puts_in new ≡ puts_in reads ++ writes.one.write ∷ [] = ap puts_in is ∙ map_push (λ (w : CrossedWrites). w.one.write) reads writes in
       record {
@@ -82,22 +89,27 @@ module _ (steps : List NumberedCall) (owners : List ℕ) (hit : ℕ) (puts : Lis
               subst (Contains (puts_in reads ++ writes.one.write ∷ [])) (same ∙ sym e) (Contains-push (puts_in reads) writes.one.write)
           | inr apart ↦ Contains-append_left (puts_in reads) (writes.one.write ∷ []) other.position (had.all k other (omega arith) at_k reads_it)
         ]);
+        beyond = subst (All (IsPutFrom puts index)) (sym is) (All-push (IsPutFrom puts index) reads writes (All-weaker (IsPutFrom puts from) (IsPutFrom puts index) (λ one is_from. from_earlier index from one (omega arith) is_from) reads had.beyond) (index, put, omega arith, at, sym same));
+        once = subst (AllPairs (λ (one other : CrossedWrites). one.one.write ≢ other.one.write)) (sym is) (all_pairs_push (λ (one other : CrossedWrites). one.one.write ≢ other.one.write) reads writes had.once (λ k d less twice.
+            let b = had.beyond k d less in
+            let low : from ≤ b.0 = b.2 in
+            pair_at (λ (one other : Put). one.position ≢ other.position) puts index b.0 put b.1 distinct (omega arith) at b.3 (sym (b.4 ∙ twice ∙ same))));
       }
 
   -- one put more was looked at
   module _ (index from : ℕ) (put : Put) (asked : NumberedCall) (next : from ≡ index + 1) (at : slice_get puts index ≡ Some put) (asked_at : slice_get steps hit ≡ Some asked) (can : IsTrue (is_live put.expires asked.time) → ReadsIn steps hit put.position) (live : ReadsIn steps hit put.position → IsTrue (is_live put.expires asked.time)) where
-    looked_true : (reads new : List CrossedWrites) → IsLookedAt steps owners hit put true reads new → AreReadsFrom steps owners hit puts from reads → AreReadsFrom steps owners hit puts index new
-    looked_true reads new looked had =
+    looked_true : AllPairs (λ (one other : Put). one.position ≢ other.position) puts → (reads new : List CrossedWrites) → IsLookedAt steps owners hit put true reads new → AreReadsFrom steps owners hit puts from reads → AreReadsFrom steps owners hit puts index new
+    looked_true distinct reads new looked had =
         let same : looked.0 ≡ asked = same_Some looked.0 asked (sym looked.1 ∙ asked_at) in
         elim looked.2 [
-          | inl dead ↦ subst (AreReadsFrom steps owners hit puts index) (sym dead.1) (reads_skip index from reads (λ k other low less at_k reads_it.
+          | inl dead ↦ subst (AreReadsFrom steps owners hit puts index) (sym dead.1) (reads_skip index from reads (omega arith) (λ k other low less at_k reads_it.
               let e : other ≡ put = same_at puts k index other put (omega arith) at_k at in
               dead.0 (subst (λ (s : NumberedCall). IsTrue (is_live put.expires s.time)) (sym same) (live (subst (λ (p : Put). ReadsIn steps hit p.position) e reads_it)))) had)
-          | inr listed ↦ reads_more index from put reads new listed.1.0 next at (can (subst (λ (s : NumberedCall). IsTrue (is_live put.expires s.time)) same listed.0)) listed.1.1 listed.1.2 had
+          | inr listed ↦ reads_more distinct index from put reads new listed.1.0 next at (can (subst (λ (s : NumberedCall). IsTrue (is_live put.expires s.time)) same listed.0)) listed.1.1 listed.1.2 had
         ]
 
-    pub looked_on : (fits : Bool) (reads new : List CrossedWrites) → fits ≡ true → IsLookedAt steps owners hit put fits reads new → AreReadsFrom steps owners hit puts from reads → AreReadsFrom steps owners hit puts index new
-    looked_on fits reads new is looked had = looked_true reads new (subst (λ b. IsLookedAt steps owners hit put b reads new) is looked) had
+    pub looked_on : AllPairs (λ (one other : Put). one.position ≢ other.position) puts → (fits : Bool) (reads new : List CrossedWrites) → fits ≡ true → IsLookedAt steps owners hit put fits reads new → AreReadsFrom steps owners hit puts from reads → AreReadsFrom steps owners hit puts index new
+    looked_on distinct fits reads new is looked had = looked_true distinct reads new (subst (λ b. IsLookedAt steps owners hit put b reads new) is looked) had
 
     looked_false : (reads new : List CrossedWrites) → IsLookedAt steps owners hit put false reads new → HasOpen steps owners hit
     looked_false reads new looked =
@@ -116,6 +128,7 @@ module _ (steps : List NumberedCall) (owners : List ℕ) (hit : ℕ) (puts : Lis
         let k = index_of puts told.item told.listed in
         let same = told.told.is_at in
         subst (Contains (puts_in reads)) same (had.all k.0 told.item (omega arith) k.1 (subst (ReadsIn steps hit) (sym same) can));
+    once = had.once;
   }
 
 -- ---- the hits whose puts would all be crossed
@@ -264,6 +277,7 @@ module _ (G H : ℕ → ℕ → Type 0) (more : (write call : ℕ) → G write c
     each = All-weaker (AreCrossedIfRead G history hit) (AreCrossedIfRead H history hit) (crossed_weaker hit) reads is.each;
     only = is.only;
     all = is.all;
+    once = is.once;
   }
 
 -- ---- what that says of the history
@@ -337,6 +351,7 @@ module _ (history : List Call) (steps : List NumberedCall) (are : AreSteps histo
             let r = read.reads in
             could_by history steps are hit writes.one.write r.asked r.given r.asked_at r.given_at r.kind r.reads) reads is.each;
         all = λ put could. is.all put (reads_in hit put unsure.step unsure.at unsure.kind could);
+        once = is.once;
       }
 
   -- ---- and back

@@ -12,6 +12,7 @@ use Rattle.certificate_finder.specs.declared.numbered_call.NumberedCall.{Numbere
 use Rattle.certificate_finder.specs.Lateness.{late_hit}
 use Rattle.certificate_finder.specs.Putting.{IsOver, last_rank, put_rank, value_rank}
 use Rattle.certificate_finder.specs.Steps.{AreSteps}
+use Rattle.certificate_finder.specs.Witnesses.{NamePutsOnce}
 use Rattle.certificate_finder.specs.Writing.{IsSplit, IsSplitBelow}
 
 -- an excuse is what a put's stamps and a hit's say
@@ -98,10 +99,11 @@ pub record IsExcludedStep (steps : List NumberedCall) (hit : NumberedCall) (excl
   pub like : IsLikePut hit put
   pub why : ExcludesStep steps hit put excluded.why
 
--- these are all puts of the hit's key and value, each excluded
+-- these are all puts of the hit's key and value, each once, and each excluded
 pub record AreExcluded (steps : List NumberedCall) (hit : NumberedCall) (excluded : List Excluded) : Type 0 where
   pub each : All (IsExcludedStep steps hit) excluded
   pub all : (position : ℕ) (put : NumberedCall) → slice_get steps position ≡ Some put → IsLikePut hit put → Contains (map (λ one. one.put) excluded) position
+  pub once : NamePutsOnce excluded
 
 -- these are all puts of the key and value of the hit at a position, each excluded
 pub record AreExcludedAt (steps : List NumberedCall) (position : ℕ) (excluded : List Excluded) : Type 0 where

@@ -15,6 +15,7 @@ use Rattle.certificate_finder.specs.Choosing.{IsEarlierBy}
 use Rattle.certificate_finder.specs.Faults.{unread_in}
 use Rattle.certificate_finder.specs.Lists.{Lists}
 use Rattle.certificate_finder.specs.Offering.{ReadsIn, stamp_at}
+use Rattle.certificate_finder.specs.Witnesses.{ReadPutsOnce}
 use Rattle.certificate_finder.specs.Writing.{Writing, key_rank}
 use Rattle.certificate_finder.specs.Zones.{AreDistinct, Goes, IsFitZone, TellsZone}
 
@@ -138,15 +139,22 @@ pub record IsCrossedRead (steps : List NumberedCall) (owners : List ℕ) (hit : 
   pub reads : ReadsIn steps hit writes.one.write
   pub crossed : IsCrossedIf steps owners hit writes.one.write writes
 
--- each of the puts from an index on that a hit can have read is listed, and would be crossed
+-- the first of these writes is a put from an index on
+abbrev pub IsPutFrom : List Put → ℕ → CrossedWrites → Type 0
+IsPutFrom puts from writes = (k : ℕ) × (put : Put) × (from ≤ k) × (slice_get puts k ≡ Some put) × (put.position ≡ writes.one.write)
+
+-- each of the puts from an index on that a hit can have read is listed once, and would be crossed
 pub record AreReadsFrom (steps : List NumberedCall) (owners : List ℕ) (hit : ℕ) (puts : List Put) (from : ℕ) (reads : List CrossedWrites) : Type 0 where
   pub each : All (IsCrossedRead steps owners hit) reads
   pub all : (k : ℕ) (put : Put) → from ≤ k → slice_get puts k ≡ Some put → ReadsIn steps hit put.position → Contains (puts_in reads) put.position
+  pub beyond : All (IsPutFrom puts from) reads
+  pub once : ReadPutsOnce reads
 
--- the hit at a position can have read these puts, and each would be crossed
+-- the hit at a position can have read these puts, each listed once, and each would be crossed
 pub record IsUnreadIn (steps : List NumberedCall) (owners : List ℕ) (hit : ℕ) (reads : List CrossedWrites) : Type 0 where
   pub each : All (IsCrossedRead steps owners hit) reads
   pub all : (put : ℕ) → ReadsIn steps hit put → Contains (puts_in reads) put
+  pub once : ReadPutsOnce reads
 
 -- a hit can have read a put that would not be crossed
 pub record HasOpen (steps : List NumberedCall) (owners : List ℕ) (hit : ℕ) : Type 0 where

@@ -1,5 +1,5 @@
 -- Why a history is accepted with no certificate.
-use Rattle.std.specs.Prelude.{◌≡◌, ◌≢◌, ℕ, ◌<◌, ◌⊎◌, List, All, Contains, map, slice_get, Some, IsSomeAnd, IsTrue}
+use Rattle.std.specs.Prelude.{◌≡◌, ◌≢◌, ℕ, ◌<◌, ◌⊎◌, List, All, AllPairs, Contains, map, slice_get, Some, IsSomeAnd, IsTrue}
 use Rattle.record_pages.specs.Expiry.{is_live}
 use Rattle.trace_file.specs.declared.act.Act.TheVariants.{Put, Hit}
 use Rattle.trace_file.specs.declared.call.Call.{Call}
@@ -31,7 +31,11 @@ pub record IsExcluded (history : List Call) (hit : Call) (value : List ℕ) (mom
   pub one_key : put.key ≡ hit.key
   pub why : Excludes history hit put moment expires excluded.why
 
--- the hit at a position can have read none of the puts of its key and value: these are all of them, each excluded
+-- no put is named twice
+abbrev pub NamePutsOnce : List Excluded → Type 0
+NamePutsOnce puts = AllPairs (λ (one other : Excluded). one.put ≢ other.put) puts
+
+-- the hit at a position can have read none of the puts of its key and value: these are all of them, each once, and each excluded
 pub record ReadsNone (history : List Call) (hit : ℕ) (puts : List Excluded) : Type 0 where
   pub call : Call
   pub value : List ℕ
@@ -40,6 +44,7 @@ pub record ReadsNone (history : List Call) (hit : ℕ) (puts : List Excluded) : 
   pub is : call.act ≡ Hit value moment
   pub excluded : All (IsExcluded history call value moment) puts
   pub all : (position : ℕ) (put : Call) (expires : ℕ) → slice_get history position ≡ Some put → put.act ≡ Put value expires → put.key ≡ call.key → Contains (map (λ one. one.put) puts) position
+  pub once : NamePutsOnce puts
 
 -- the call at a position goes with the write at another: it is that write, or a hit that can have read no other put
 abbrev pub GoesWith : List Call → ℕ → ℕ → Type 0
@@ -84,7 +89,11 @@ pub record AreCrossedIfRead (goes : ℕ → ℕ → Type 0) (history : List Call
   pub forth : PrecedesAt history writes.one.early writes.other.late
   pub back : PrecedesAt history writes.other.early writes.one.late
 
--- the hit at a position read none of its puts: these are all that it can have read, each with a write with which it is crossed if the hit read it, by the calls that go with each
+-- no put is read twice
+abbrev pub ReadPutsOnce : List CrossedWrites → Type 0
+ReadPutsOnce reads = AllPairs (λ (one other : CrossedWrites). one.one.write ≢ other.one.write) reads
+
+-- the hit at a position read none of its puts: these are all that it can have read, each once, and each with a write with which it is crossed if the hit read it, by the calls that go with each
 pub record IsUnreadBy (goes : ℕ → ℕ → Type 0) (history : List Call) (hit : ℕ) (reads : List CrossedWrites) : Type 0 where
   pub call : Call
   pub value : List ℕ
@@ -94,6 +103,7 @@ pub record IsUnreadBy (goes : ℕ → ℕ → Type 0) (history : List Call) (hit
   pub each : All (AreCrossedIfRead goes history hit) reads
   pub only : All (λ (writes : CrossedWrites). CouldRead history hit writes.one.write) reads
   pub all : (put : ℕ) → CouldRead history hit put → Contains (map (λ (writes : CrossedWrites). writes.one.write) reads) put
+  pub once : ReadPutsOnce reads
 
 -- the same by the write itself and the hits that can have read no other put
 abbrev pub IsUnread : List Call → ℕ → List CrossedWrites → Type 0

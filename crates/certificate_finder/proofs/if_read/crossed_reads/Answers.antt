@@ -30,7 +30,7 @@ loop-upto-preserved-then-last-least c =
     let within = c.loop-upto.invariant.within in
     record {
       within = omega arith;
-      reads = reads_skip c.args.steps.now c.args.groups.now.owners.items c.args.hit c.args.linked.puts.now c.item_at-upto.result c.loop-upto.upto c.loop-upto.reads.items
+      reads = reads_skip c.args.steps.now c.args.groups.now.owners.items c.args.hit c.args.linked.puts.now c.item_at-upto.result c.loop-upto.upto c.loop-upto.reads.items (omega arith)
           (none_standing c.args.steps.now c.args.linked.puts.now c.requires.puts c.requires.fit c.args.hit c.item_at-asked.result c.item_at-asked.ensures (c.loop-upto.upto - 1) c.item_at-upto.result c.loop-upto.upto c.item_at-put.result (omega arith) link c.item_at-put.ensures (omega arith))
           c.loop-upto.invariant.reads;
     }
@@ -67,7 +67,7 @@ loop-upto-preserved c =
       reads = looked_on c.args.steps.now c.args.groups.now.owners.items c.args.hit c.args.linked.puts.now (c.loop-upto.upto - 1) c.loop-upto.upto c.item_at-put.result c.item_at-asked.result (omega arith) c.item_at-put.ensures c.item_at-asked.ensures
           (λ live. can_have_read c.args.steps.now c.args.linked.puts.now c.requires.puts c.requires.fit c.args.hit c.item_at-asked.result c.item_at-asked.ensures (c.loop-upto.upto - 1) c.puts_upto-upto.result c.item_at-put.result kind split (omega arith) c.item_at-put.ensures (omega arith) live)
           (live_at c.args.steps.now c.args.linked.puts.now c.requires.puts c.requires.fit c.args.hit c.item_at-asked.result c.item_at-asked.ensures (c.loop-upto.upto - 1) c.item_at-put.result c.item_at-put.ensures)
-          c.in_ok-look_at.field-0 c.loop-upto.reads.items c.look_at.new.reads.items c.if-not-branch.false c.in_ok-look_at.ensures c.loop-upto.invariant.reads;
+          c.requires.puts.in_order.distinct c.in_ok-look_at.field-0 c.loop-upto.reads.items c.look_at.new.reads.items c.if-not-branch.false c.in_ok-look_at.ensures c.loop-upto.invariant.reads;
     }
 
 pub returns : goal.returns
