@@ -1,4 +1,4 @@
-//! Says why a history is rejected: in a sentence, with the calls round the place as lines of text or as a picture.
+//! Says why a history is rejected: in a sentence, with the calls around the place as lines of text or as a picture.
 #![tactic(auto)]
 
 mod arrows;
