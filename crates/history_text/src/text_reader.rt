@@ -59,7 +59,8 @@ impl TextReader {
 
     /// The number of the next line. The first has the number 1.
     pub fn number(&self) -> u64
-        ensures { result ≡ self.now.number }
+        ensures number { result ≡ self.now.number }
+        ensures few { self.now.number ≤ 2 ^ 63 }
     {
         self.number
     }

@@ -30,7 +30,7 @@ use Rattle.judge_run.proofs.StreamLaws.{count_both, puts_added}
 module _ (weight : Call → ℕ) where
   more_taken : (xs : List Call) (a b : ℕ) → a ≤ b → sum_by weight (take a xs) ≤ sum_by weight (take b xs)
   more_taken xs zero b less =
-      let none : sum_by weight (take 0 xs) ≡ 0 = refl in
+      let none : sum_by weight (take zero xs) ≡ 0 = refl in
       omega (arith, none)
   more_taken [] (suc a) b less =
       let none : sum_by weight (take (suc a) []) ≡ 0 = refl in
@@ -38,19 +38,22 @@ module _ (weight : Call → ℕ) where
   more_taken (x ∷ xs) (suc a) zero less = absurd (omega (arith, less))
   more_taken (x ∷ xs) (suc a) (suc b) less =
       let more = more_taken xs a b (omega (arith, less)) in
-      let one = sum_by-cons weight x (take a xs) in
-      let other = sum_by-cons weight x (take b xs) in
+      let one : sum_by weight (take (suc a) (x ∷ xs)) ≡ weight x + sum_by weight (take a xs) = sum_by-cons weight x (take a xs) in
+      let other : sum_by weight (take (suc b) (x ∷ xs)) ≡ weight x + sum_by weight (take b xs) = sum_by-cons weight x (take b xs) in
       omega (arith, more, one, other)
 
   picked_one : (calls : List Call) (place : ℕ) (rest : List ℕ) (from : ℕ) (found : Option Call) → from ≤ place → slice_get calls place ≡ found → sum_by weight (take (place + 1) calls) + sum_by weight (in_order calls rest) ≤ sum_by weight calls → sum_by weight (take from calls) + sum_by weight (in_order calls (place ∷ rest)) ≤ sum_by weight calls
   picked_one calls place rest from None least at more =
       let front = more_taken calls from (place + 1) (omega (arith, least)) in
-      rw at (omega (arith, front, more))
+      let same : in_order calls (place ∷ rest) ≡ in_order calls rest = rw at refl in
+      let alike = ap (sum_by weight) same in
+      omega (arith, front, alike, more)
   picked_one calls place rest from (Some call) least at more =
       let front = more_taken calls from place least in
       let this : sum_by weight (take (place + 1) calls) ≡ sum_by weight (take place calls) + weight call = ap (sum_by weight) (take_next calls place call at) ∙ sum_by_push weight (take place calls) call in
-      let first = sum_by-cons weight call (in_order calls rest) in
-      rw at (omega (arith, front, this, first, more))
+      let same : in_order calls (place ∷ rest) ≡ call ∷ in_order calls rest = rw at refl in
+      let alike = ap (sum_by weight) same ∙ sum_by-cons weight call (in_order calls rest) in
+      omega (arith, front, this, alike, more)
 
   picked_few : (calls : List Call) (places : List ℕ) (from : ℕ) → ((place : ℕ) → Member place places → from ≤ place) → Pairs (λ earlier later. earlier < later) places → sum_by weight (take from calls) + sum_by weight (in_order calls places) ≤ sum_by weight calls
   picked_few calls [] from least rise =
@@ -145,8 +148,9 @@ module _ (scope : Scope) (window least : ℕ) (unended : Bool) (known left : Opt
           omega (arith, many, here, all, both)),
     )
     | inr many ↦ inr (
+        let before : 2 ^ 64 ≤ forgotten.added + 0 = many in
         let earlier = last.added_before in
-        omega (arith, many, earlier))
+        omega (arith, before, earlier))
   ])
 
 -- ---- a reading of some calls

@@ -1,10 +1,11 @@
 // How many calls of each kind were forgotten.
-ghost use Rattle.std.specs.Prelude.{◌≡◌, ◌+◌, ◌≤◌, ◌^◌, [], IfSome, IfNone, None, unwrap_or};
+ghost use Rattle.std.specs.Prelude.{◌≡◌, ◌+◌, ◌≤◌, ◌^◌, [], IfErr, IfOk, OnErr, None, unwrap_or};
 ghost use Rattle.judge_run.specs.Kinds.{counts_in};
 ghost use Rattle.judge_run.specs.Streams.{AreFewer, IsGrown, IsOver};
 
 use crate::forgotten::Forgotten;
 use crate::kinds::calls_of;
+use history_text::ReadTextFault;
 use trace_file::{CallKind, History};
 
 /// How many calls of each kind a history has.
@@ -29,22 +30,30 @@ pub(crate) fn counts_of(history: &History) -> KindCounts
 }
 
 /// A number, and by how much another one became less, if 64 bits can hold the sum.
-fn more(count: u64, before: usize, after: usize) -> Option<u64>
+fn more(count: u64, before: usize, after: usize) -> Result<u64, ReadTextFault>
     requires { after ≤ before }
-    ensures sum { IfSome result (λ sum. before + count ≡ after + sum) }
-    ensures none { IfNone result (2 ^ 64 ≤ before + count) }
+    ensures sum { IfOk result (λ sum. before + count ≡ after + sum) }
+    ensures fault { IfErr result (λ fault. fault ≡ ReadTextFault.CountFull) }
+    ensures over { OnErr result (2 ^ 64 ≤ before + count) }
 {
-    count.checked_add((before - after) as u64)
+    match count.checked_add((before - after) as u64) {
+        Some(sum) => Ok(sum),
+        None => Err(ReadTextFault::CountFull),
+    }
 }
 
 /// How many puts were added with these, if 64 bits can hold it.
-fn added_with(added: u64, from_start: Option<usize>) -> Option<u64>
-    ensures sum { IfSome result (λ sum. sum ≡ added + unwrap_or from_start 0) }
-    ensures none { IfNone result (2 ^ 64 ≤ added + unwrap_or from_start 0) }
+fn added_with(added: u64, from_start: Option<usize>) -> Result<u64, ReadTextFault>
+    ensures sum { IfOk result (λ sum. sum ≡ added + unwrap_or from_start 0) }
+    ensures fault { IfErr result (λ fault. fault ≡ ReadTextFault.CountFull) }
+    ensures over { OnErr result (2 ^ 64 ≤ added + unwrap_or from_start 0) }
 {
-    match from_start {
-        Some(values) => added.checked_add(values as u64),
-        None => Some(added),
+    let Some(values) = from_start else {
+        return Ok(added);
+    };
+    match added.checked_add(values as u64) {
+        Some(sum) => Ok(sum),
+        None => Err(ReadTextFault::CountFull),
     }
 }
 
@@ -55,17 +64,18 @@ pub(crate) fn grown(
     before: &KindCounts,
     after: &KindCounts,
     from_start: Option<usize>,
-) -> Option<Forgotten>
+) -> Result<Forgotten, ReadTextFault>
     requires { AreFewer after.now before.now }
-    ensures grown { IfSome result (λ more. IsGrown forgotten more before.now after.now from_start) }
-    ensures none { IfNone result (IsOver forgotten before.now from_start) }
+    ensures grown { IfOk result (λ more. IsGrown forgotten more before.now after.now from_start) }
+    ensures fault { IfErr result (λ fault. fault ≡ ReadTextFault.CountFull) }
+    ensures over { OnErr result (IsOver forgotten before.now from_start) }
 {
     let puts = more(forgotten.puts, before.puts, after.puts)?;
     let removals = more(forgotten.removals, before.removals, after.removals)?;
     let hits = more(forgotten.hits, before.hits, after.hits)?;
     let misses = more(forgotten.misses, before.misses, after.misses)?;
     let added = added_with(forgotten.added, from_start)?;
-    Some(Forgotten {
+    Ok(Forgotten {
         puts,
         removals,
         hits,
@@ -75,9 +85,13 @@ pub(crate) fn grown(
 }
 
 /// What was forgotten, with these calls too, which wait to be judged; if 64 bits can hold each number.
-pub(crate) fn with_waiting(forgotten: Forgotten, waiting: &History) -> Option<Forgotten>
-    ensures grown { IfSome result (λ more. IsGrown forgotten more (counts_in waiting.now) (counts_in []) None) }
-    ensures none { IfNone result (IsOver forgotten (counts_in waiting.now) None) }
+pub(crate) fn with_waiting(
+    forgotten: Forgotten,
+    waiting: &History,
+) -> Result<Forgotten, ReadTextFault>
+    ensures grown { IfOk result (λ more. IsGrown forgotten more (counts_in waiting.now) (counts_in []) None) }
+    ensures fault { IfErr result (λ fault. fault ≡ ReadTextFault.CountFull) }
+    ensures over { OnErr result (IsOver forgotten (counts_in waiting.now) None) }
 {
     let none = KindCounts {
         puts: 0,
@@ -86,7 +100,7 @@ pub(crate) fn with_waiting(forgotten: Forgotten, waiting: &History) -> Option<Fo
         misses: 0,
     };
     match grown(forgotten, &counts_of(waiting), &none, None) {
-        Some(more) => Some(more),
-        None => None,
+        Ok(more) => Ok(more),
+        Err(fault) => Err(fault),
     }
 }

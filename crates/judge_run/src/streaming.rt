@@ -1,5 +1,5 @@
 // Judging a text piece by piece.
-ghost use Rattle.std.specs.Prelude.{◌≡◌, ◌-◌, ◌<◌, ◌^◌, ℕ, List, Option, IfErr, IfOk, IfSome, OnOk, length, not, true, false, None, Some};
+ghost use Rattle.std.specs.Prelude.{◌≡◌, ◌-◌, ◌<◌, ℕ, List, Option, IfErr, IfOk, IfSome, OnOk, length, not, true, false, None, Some};
 ghost use Rattle.std.specs.Io.KnownBytes.{IsAtEnd};
 ghost use Rattle.certificate_finder.specs.Finding.{IfRejected, IsFound};
 ghost use Rattle.history_text.specs.Pieces.{Progress, left_of};
@@ -85,7 +85,7 @@ pub fn judge_stream<S: BuildHasher + Copy + Drop, R: Read>(
     }
 }
 
-/// Judges a stream piece by piece, up to its end.
+/// Judges a stream piece by piece, up to its end. Each piece but the last has a line, and lines have an end.
 fn judge_pieces<S: BuildHasher + Copy + Drop, R: Read>(
     alloc: Global,
     hash_builder: S,
@@ -103,6 +103,7 @@ fn judge_pieces<S: BuildHasher + Copy + Drop, R: Read>(
     ensures fault { IfErr result (IsStreamFault rule.scope rule.window rule.least (R.remaining reader.old)) }
 {
     loop {
+        let _number = lines.number();
         match judge_next(alloc, hash_builder, rule, stream, lines, reader) {
             Ok(Some(end)) => return Ok(end),
             Ok(None) => {}
@@ -128,7 +129,6 @@ fn judge_next<S: BuildHasher + Copy + Drop, R: Read>(
         → IsPieceEnd rule known (left_of lines.new (R.remaining reader.new)) lines.new end stream.new) }
     ensures verdict { IfOk result (λ end. IfSome end (IsEndOf stream.new)) }
     ensures more { IfOk result (λ end. end ≡ None → lines.old.number < lines.new.number) }
-    ensures few { lines.new.number < 2 ^ 64 }
     ensures whole { IfOk result (λ end. IfSome end (λ told.
         was_accepted told.found ≡ true → IsAtEnd (R.remaining reader.new))) }
     ensures fault { IfErr result (λ fault. (known : Option (List ℕ))
@@ -297,8 +297,9 @@ fn end_with<S: BuildHasher + Copy + Drop>(
     let Ok(faults) = faults_of(alloc, hash_builder, &stream.text.history, &found) else {
         return Err(ReadTextFault::OutOfMemory);
     };
-    let Some(gone) = with_waiting(stream.forgotten, &stream.waiting.history) else {
-        return Err(ReadTextFault::CountFull);
+    let gone = match with_waiting(stream.forgotten, &stream.waiting.history) {
+        Ok(gone) => gone,
+        Err(fault) => return Err(fault),
     };
     let extent = Extent {
         from_start,
@@ -334,8 +335,9 @@ fn go_on<S: BuildHasher + Copy + Drop>(
         return Err(ReadTextFault::OutOfMemory);
     };
     let after = counts_of(&stream.text.history);
-    let Some(forgotten) = grown(stream.forgotten, &before, &after, from_start) else {
-        return Err(ReadTextFault::CountFull);
+    let forgotten = match grown(stream.forgotten, &before, &after, from_start) {
+        Ok(forgotten) => forgotten,
+        Err(fault) => return Err(fault),
     };
     stream.forgotten = forgotten;
     stream.kept.history = replace(&mut stream.text.history, History::new(alloc));

@@ -23,3 +23,6 @@ returns-in-Ok-judge_piece-clause-whole g c = some_map c.in-Ok-judge_piece.end _ 
 pub returns-in-Err-judge_piece-clause-fault : goal.returns-in-Err-judge_piece-clause-fault
 returns-in-Err-judge_piece-clause-fault g c = λ known held.
     c.in-Err-judge_piece.ensures.fault known (left_of c.take_piece.new.lines (g.R.Read.remaining c.take_piece.new.reader)) c.take_piece.new.lines (c.in-Ok.ensures.taken known held)
+
+pub returns-in-Ok-judge_piece-clause-more : goal.returns-in-Ok-judge_piece-clause-more
+returns-in-Ok-judge_piece-clause-more g c = λ none. c.in-Ok.ensures.more (c.in-Ok-judge_piece.ensures.more none)

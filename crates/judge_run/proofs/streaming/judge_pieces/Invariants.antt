@@ -1,4 +1,4 @@
-use Rattle.std.proofs.Common.{◌-◌, ◌^◌}
+use Rattle.std.proofs.Common.{◌+◌, ◌-◌, ◌^◌}
 use Rattle.history_text.specs.Pieces.{left_of}
 use Rattle.history_text.specs.Reading.{IsAhead}
 use Rattle.judge_run.specs.Streams.{IsHeld}
@@ -12,4 +12,4 @@ invariant-loop g l = record {
 }
 
 abbrev pub decreases-loop : goal.decreases-loop
-decreases-loop g l = 2 ^ 64 - l.lines.number
+decreases-loop g l = (2 ^ 63 + 1) - l.lines.number

@@ -27,3 +27,9 @@ returns-then-is_accepted-clause-fault g c =
           w.in-Err.ensures.fault rule known left progress
           (subst (λ (more : Bool). IsPieceJudged rule more known left progress c.args.from_start c.args.stream.now) unended last))
     ]
+
+pub returns-then-is_accepted-clause-more : goal.returns-then-is_accepted-clause-more
+returns-then-is_accepted-clause-more g c = elim c.match-go_on.branch [
+  | in-Ok-go_on w ↦ rw w.result-is (λ none. c.if-not-over.true)
+  | in-Err w ↦ rw w.result-is tt
+]

@@ -113,4 +113,5 @@ returns-in-Ok-put_before-clause-more g c = λ is_on.
     let piece = text_by c.take_calls.new.text.history c.take_calls.new.text.lines.items c.take_calls.new.text.callers in
     let full = c.in-Ok.ensures.full is_on in
     let some = c.most_of-most.ensures.some in
-    more_read left rest c.args.lines.now c.take_calls.new.self (judged_of stream) piece c.in-Ok.ensures.piece (omega (arith, full, some))
+    let less : length stream.text.history < length c.take_calls.new.text.history = omega (arith, full, some) in
+    more_read left rest c.args.lines.now c.take_calls.new.self (judged_of stream) piece c.in-Ok.ensures.piece less
