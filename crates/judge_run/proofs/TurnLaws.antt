@@ -5,6 +5,9 @@ use Rattle.std.proofs.lemmas.List.{take_more}
 use Rattle.figures.specs.declared.form.Form.{Form}
 use Rattle.judge_run.specs.declared.detail.Detail.{Detail}
 use Rattle.judge_run.specs.declared.scope.Scope.{Scope}
+use Rattle.judge_run.specs.declared.tell_fault.TellFault.{TellFault}
+use Rattle.judge_run.specs.declared.tell_fault.TellFault.TheVariants.{OutOfMemory, CountFull, ReadFault, WriteFault}
+use Rattle.judge_run.specs.Ends.{end_of_fault, status_of}
 use Rattle.judge_run.specs.Inputs.{IsStandardInput}
 use Rattle.judge_run.specs.Runs.{AreJudged, IsHeaded, IsJudgeRun, IsJudgeRunOn, JudgedFile, JudgedInTurn, is_headed, name_in, worse_of, worst_of}
 
@@ -81,3 +84,10 @@ module _ (form : Form) (scope : Scope) (detail : Detail) (least : ℕ) (several 
   next_turn others place file worst status input among left old between new less is turn judged =
       let more : take (place + 1) others ≡ take place others ++ file ∷ [] = take_more others place file less ∙ ap (λ (f : List ℕ). take place others ++ f ∷ []) (sym is) in
       subst (λ (files : List (List ℕ)). JudgedInTurn form scope detail least several (first ∷ files) input left old new (worse_of worst status)) (sym more) (grown (take place others) turn.statuses worst file status input among left old between new turn.are turn.status_is judged)
+
+-- a fault has a status of its own
+pub fault_status : (fault : TellFault) → status_of (end_of_fault fault) ≡ 3
+fault_status OutOfMemory = refl
+fault_status CountFull = refl
+fault_status ReadFault = refl
+fault_status WriteFault = refl
