@@ -193,7 +193,9 @@ def log_of_daemon():
         finally:
             os.kill(pid, signal.SIGTERM)
             wait_for(lambda: not os.path.exists(f"/proc/{pid}/exe"), "it ends")
-        equal(read_log(log)[-1][1:], ("info", "ends by Terminated"), "its last line")
+        lines = read_log(log)
+        equal(lines[-1][1:], ("info", "ends by Terminated"), "its last line")
+        expect("another cache has this folder" in lines[0][2], f"the lines of before are kept: {lines}")
 
 
 def limit_files(it, most):
