@@ -9,6 +9,7 @@ use crate::event::Event;
 use crate::ledger::Ledger;
 use crate::played_lane::PlayedLane;
 use crate::reply::{Replies, Reply};
+use crate::stamps::Stamps;
 use record_pages::Layout;
 use set_hash::place;
 use std::alloc::{AllocError, Global};
@@ -86,8 +87,13 @@ impl<L: PlayedLane<PAGE>, const PAGE: usize> Game<L, PAGE> {
             return Ok(Reply::Ignored);
         };
         let point = self.ledger.number() + 1;
+        let stamps = Stamps {
+            caller,
+            start: call.start,
+            point,
+        };
         let lane = place(&self.layout, call.operation.key().bytes()).lane;
-        let acted = self.lanes[lane as usize].act(caller, call.start, point, call.operation)?;
+        let acted = self.lanes[lane as usize].act(stamps, call.operation)?;
         self.ledger.act(caller, lane, acted.noted)?;
         Ok(acted.reply)
     }

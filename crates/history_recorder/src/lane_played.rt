@@ -1,6 +1,6 @@
 // A recorded lane, as it is played.
 ghost use Rattle.std.specs.Prelude.{◌≡◌, ◌<◌, All, IfOk};
-ghost use Rattle.recorded_lane.specs.Lane.{IsOfLane, IsRecorded};
+ghost use Rattle.recorded_lane.specs.Lane.{IsOfLane, IsRecorded, noted_at};
 ghost use Rattle.history_recorder.specs.Operations.{lane_of};
 ghost use Rattle.history_recorder.specs.Books.{IsBackgroundEvent};
 ghost use Rattle.history_recorder.specs.Game.{LaneActs, LaneSteps, layout_in, honest_in, state_in};
@@ -10,6 +10,7 @@ use crate::event::Event;
 use crate::operation::Operation;
 use crate::played_lane::PlayedLane;
 use crate::reply::Reply;
+use crate::stamps::Stamps;
 use page_device::PageDevice;
 use policy_laws::Plan;
 use record_pages::{Answer, Key, Value};
@@ -28,29 +29,23 @@ impl<D: PageDevice<PAGE>, const PAGE: usize> PlayedLane<PAGE> for RecordedLane<D
 
     ghost calls = { λ lane. lane.calls };
 
-    fn act(
-        &mut self,
-        caller: u16,
-        start: u64,
-        point: u64,
-        operation: Operation,
-    ) -> Result<ActReply, AllocError>
-        requires start { start < point }
-        requires rises { All (λ n. n.point < point) self.old.calls }
+    fn act(&mut self, stamps: Stamps, operation: Operation) -> Result<ActReply, AllocError>
+        requires start { stamps.start < stamps.point }
+        requires rises { All (λ n. n.point < stamps.point) self.old.calls }
         requires its { lane_of self.old.store.layout operation ≡ self.old.lane }
-        ensures { IfOk result (λ acted. LaneActs D.honest D.held PAGE caller start point operation
-            self.old acted self.new) }
+        ensures { IfOk result (λ acted. LaneActs D.honest D.held PAGE stamps.caller stamps.start
+            stamps.point operation self.old acted self.new) }
     {
         match operation {
-            Operation::Get(key, moment) => match act_get(self, caller, start, point, key, moment) {
+            Operation::Get(key, moment) => match act_get(self, stamps, key, moment) {
                 Ok(acted) => Ok(acted),
                 Err(refused) => Err(refused),
             },
             Operation::Put(key, value, word, expires) => {
-                let noted = noted_put(caller, start, point, &key, &value, expires)?;
+                let noted = noted_put(stamps, &key, &value, expires)?;
                 Ok(act_put(self, noted, key, value, word, expires))
             }
-            Operation::Remove(key) => Ok(act_remove(self, caller, start, point, key)),
+            Operation::Remove(key) => Ok(act_remove(self, stamps, key)),
         }
     }
 
@@ -80,25 +75,23 @@ pub(crate) fn know_recorded<D: PageDevice<PAGE>, const PAGE: usize>(lane: &Recor
 /// A get, as it is played.
 fn act_get<D: PageDevice<PAGE>, const PAGE: usize>(
     recorded: &mut RecordedLane<D, PAGE>,
-    caller: u16,
-    start: u64,
-    point: u64,
+    stamps: Stamps,
     key: Key,
     moment: u64,
 ) -> Result<ActReply, AllocError>
-    requires start { start < point }
-    requires rises { All (λ n. n.point < point) recorded.old.calls }
+    requires start { stamps.start < stamps.point }
+    requires rises { All (λ n. n.point < stamps.point) recorded.old.calls }
     requires own { IsOfLane recorded.old.store.layout recorded.old.lane key }
-    ensures { IfOk result (λ acted. LaneActs D.honest D.held PAGE caller start point
-        (Operation.Get key moment) recorded.old acted recorded.new) }
+    ensures { IfOk result (λ acted. LaneActs D.honest D.held PAGE stamps.caller stamps.start
+        stamps.point (Operation.Get key moment) recorded.old acted recorded.new) }
 {
-    match recorded.get(caller, start, point, &key, moment) {
+    match recorded.get(stamps.caller, stamps.start, stamps.point, &key, moment) {
         Ok(answer) => {
             know_recorded(recorded);
             let noted = Noted {
-                caller,
-                start,
-                point,
+                caller: stamps.caller,
+                start: stamps.start,
+                point: stamps.point,
                 key,
                 act: act_from(&answer, moment)?,
             };
@@ -118,28 +111,16 @@ fn act_get<D: PageDevice<PAGE>, const PAGE: usize>(
 }
 
 /// What is recorded of a put, in a copy.
-fn noted_put(
-    caller: u16,
-    start: u64,
-    point: u64,
-    key: &Key,
-    value: &Value,
-    expires: u64,
-) -> Result<Noted, AllocError>
-    ensures { IfOk result (λ noted. noted ≡ record {
-      caller = caller;
-      start = start;
-      point = point;
-      key = key.now;
-      act = Act.Put value.now expires;
-    }) }
+fn noted_put(stamps: Stamps, key: &Key, value: &Value, expires: u64) -> Result<Noted, AllocError>
+    ensures { IfOk result (λ noted. noted ≡ noted_at stamps.caller stamps.start stamps.point key.now
+        (Act.Put value.now expires)) }
 {
     let key = key.try_clone()?;
     let value = value.try_clone()?;
     Ok(Noted {
-        caller,
-        start,
-        point,
+        caller: stamps.caller,
+        start: stamps.start,
+        point: stamps.point,
         key,
         act: Act::Put(value, expires),
     })
@@ -190,24 +171,22 @@ fn act_put<D: PageDevice<PAGE>, const PAGE: usize>(
 /// A removal, as it is played.
 fn act_remove<D: PageDevice<PAGE>, const PAGE: usize>(
     recorded: &mut RecordedLane<D, PAGE>,
-    caller: u16,
-    start: u64,
-    point: u64,
+    stamps: Stamps,
     key: Key,
 ) -> ActReply
-    requires start { start < point }
-    requires rises { All (λ n. n.point < point) recorded.old.calls }
+    requires start { stamps.start < stamps.point }
+    requires rises { All (λ n. n.point < stamps.point) recorded.old.calls }
     requires own { IsOfLane recorded.old.store.layout recorded.old.lane key }
-    ensures { LaneActs D.honest D.held PAGE caller start point (Operation.Remove key) recorded.old
-        result recorded.new }
+    ensures { LaneActs D.honest D.held PAGE stamps.caller stamps.start stamps.point
+        (Operation.Remove key) recorded.old result recorded.new }
 {
-    match recorded.remove(caller, start, point, &key) {
+    match recorded.remove(stamps.caller, stamps.start, stamps.point, &key) {
         Ok(()) => {
             know_recorded(recorded);
             let noted = Noted {
-                caller,
-                start,
-                point,
+                caller: stamps.caller,
+                start: stamps.start,
+                point: stamps.point,
                 key,
                 act: Act::Remove,
             };

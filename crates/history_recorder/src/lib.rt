@@ -22,6 +22,7 @@ mod played_lane;
 mod playing;
 mod recorded_call;
 mod reply;
+mod stamps;
 mod world;
 
 pub use dones::Dones;
@@ -37,4 +38,5 @@ pub use recorded_lane::{
     accepted_in_turn,
 };
 pub use reply::{Replies, Reply};
+pub use stamps::Stamps;
 pub use world::World;

@@ -11,6 +11,7 @@ use crate::act_reply::ActReply;
 use crate::event::Event;
 use crate::operation::Operation;
 use crate::reply::Reply;
+use crate::stamps::Stamps;
 use std::alloc::AllocError;
 
 /// A lane of a world, as it does what events ask. What it holds is said only if its device is honest.
@@ -32,18 +33,12 @@ pub(crate) trait PlayedLane<const PAGE: usize>: Drop {
 
     /// Does what a call asks, and records it. If memory is refused for the copy of a recorded call nothing is said of
     /// the lane.
-    fn act(
-        &mut self,
-        caller: u16,
-        start: u64,
-        point: u64,
-        operation: Operation,
-    ) -> Result<ActReply, AllocError>
-        requires start { start < point }
-        requires rises { All (λ n. n.point < point) (calls self.old) }
+    fn act(&mut self, stamps: Stamps, operation: Operation) -> Result<ActReply, AllocError>
+        requires start { stamps.start < stamps.point }
+        requires rises { All (λ n. n.point < stamps.point) (calls self.old) }
         requires its { lane_of (layout self.old) operation ≡ lane self.old }
-        ensures { IfOk result (λ acted. ActsSo layout lane honest calls state PAGE caller start point
-            operation self.old acted self.new) };
+        ensures { IfOk result (λ acted. ActsSo layout lane honest calls state PAGE stamps.caller
+            stamps.start stamps.point operation self.old acted self.new) };
 
     /// Takes a background step.
     fn background(&mut self, event: &Event) -> Reply

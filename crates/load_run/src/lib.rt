@@ -14,7 +14,6 @@ mod shared;
 mod summary;
 mod telling;
 
-pub use hits::hits_of;
 pub use load_result::{LoadResult, make_history};
 pub use run::run_load;
 pub use run_end::RunEnd;

@@ -41,7 +41,7 @@ pub struct LoadResult<D> {
 ///
 /// `OutOfMemory` if memory was refused outside a caller, or a thread to a caller; any other fault is the one for which the cache
 /// was not finished, as `MissingPass` if it has more callers than there are passes. The cache, the passes and the devices are
-/// dropped with each.
+/// dropped with each. Its head is long, since it has five type parameters and six arguments.
 pub fn make_history<
     D: PageDevice<PAGE> + Send,
     P: EvictionPolicy + Drop + Sync,

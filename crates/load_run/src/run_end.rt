@@ -46,7 +46,7 @@ impl RunEnd {
     }
 
     /// How a run ended whose cache was not finished.
-    pub fn of_finish(fault: FinishFault) -> RunEnd
+    pub(crate) fn of_finish(fault: FinishFault) -> RunEnd
         ensures { result ≡ end_of_finish fault }
     {
         match fault {

@@ -1,5 +1,5 @@
 -- A lane with its record, and what is true of every lane.
-use Rattle.std.specs.Prelude.{◌≡◌, ℕ, ◌-◌, ◌<◌, ◌≤◌, ◌^◌, List, Option, Bool, IsTrue, All, AllPairs, map, length, slice_get}
+use Rattle.std.specs.Prelude.{◌≡◌, ℕ, ◌-◌, ◌<◌, ◌≤◌, ◌^◌, ◌++◌, ◌∷◌, [], List, Option, Bool, IsTrue, All, AllPairs, map, length, slice_get}
 use Rattle.std.specs.Option.{option_map_or}
 use Rattle.record_pages.specs.declared.answer.Answer.{Answer}
 use Rattle.record_pages.specs.declared.layout.Layout.{Layout}
@@ -43,6 +43,18 @@ IsSound lane deeds = laws.IsSound lane deeds
 -- how many calls a lane records
 abbrev pub max_calls : ℕ
 max_calls = 2 ^ 24
+
+-- the call of a caller that started and was done at these stamps
+abbrev pub noted_at : ℕ → ℕ → ℕ → List ℕ → Act → Noted
+noted_at caller start point key act = record { caller = caller; start = start; point = point; key = key; act = act }
+
+-- a call was recorded, last, and of all else only the store may have changed
+abbrev pub RecordsCall : {D : Type 0} → Lane D → Noted → Lane D → Type 0
+RecordsCall lane n lane' = lane' ≡ record lane { store = lane'.store; calls = lane.calls ++ n ∷ [] }
+
+-- a lane has as many calls as it records
+abbrev pub HasMostCalls : {D : Type 0} → Lane D → Type 0
+HasMostCalls lane = max_calls ≤ length lane.calls
 
 -- What is true of the calls of a lane: its keys are its own, each call starts before its point, points rise, and its store was
 -- asked and answered just what they did.

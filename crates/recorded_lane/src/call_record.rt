@@ -3,6 +3,7 @@ ghost use Rattle.std.specs.Prelude.{◌≡◌, ◌-◌, ◌<◌, ◌++◌, ◌�
 ghost use Rattle.record_pages.specs.Bounded.{IsKey, IsValue};
 ghost use Rattle.trace_file.specs.Calls.{value_of};
 ghost use Rattle.trace_file.specs.Lent.{act_shown};
+ghost use Rattle.recorded_lane.specs.Lane.{noted_at};
 ghost use Rattle.recorded_lane.specs.Points.{at_point, noted_shown};
 
 use crate::noted_ref::NotedRef;
@@ -54,13 +55,8 @@ impl CallRecord {
         act: ActRef<'_>,
     ) -> Result<(), AllocError>
         requires { IsValue (value_of (act_shown act)) }
-        ensures ok { OnOk result (self.new ≡ self.old ++ (record {
-          caller = caller;
-          start = start;
-          point = point;
-          key = key.now;
-          act = act_shown act.entry;
-        }) ∷ []) }
+        ensures ok { OnOk result (self.new
+            ≡ self.old ++ noted_at caller start point key.now (act_shown act.entry) ∷ []) }
         ensures err { OnErr result (self.new ≡ self.old) }
     {
         let call = CallRef::new(caller, start, point, key.bytes(), act);

@@ -1,5 +1,5 @@
 // A lane whose calls are recorded.
-ghost use Rattle.std.specs.Prelude.{◌≡◌, ◌↔◌, ◌<◌, ◌≤◌, ◌++◌, ◌∷◌, [], All, length, map, IfOk, OnOk, OnErr, IsErrOf, IfErr, IsTrue, slice_get, Ok, Some};
+ghost use Rattle.std.specs.Prelude.{◌≡◌, ◌↔◌, ◌<◌, ◌≤◌, [], All, length, map, IfOk, OnOk, OnErr, IsErrOf, IfErr, IsTrue, slice_get, Ok, Some};
 ghost use Rattle.std.specs.List.{range_with_len};
 ghost use Rattle.record_pages.specs.Expiry.{timed};
 ghost use Rattle.record_pages.specs.Asked.{HasNumbersOf, layout_pages};
@@ -65,7 +65,7 @@ impl<D: PageDevice<PAGE>, const PAGE: usize> Model for RecordedLane<D, PAGE> {
 }
 
 impl<D: PageDevice<PAGE>, const PAGE: usize> RecordedLane<D, PAGE> {
-    ghost use Rattle.recorded_lane.specs.Lane.{IsRecorded, IsOfLane, act_of, last_point, max_calls};
+    ghost use Rattle.recorded_lane.specs.Lane.{HasMostCalls, IsOfLane, IsRecorded, RecordsCall, act_of, last_point, noted_at};
     ghost use Rattle.recorded_lane.specs.Answering.{LeavesUnrecorded};
     ghost use Rattle.recorded_lane.specs.Points.{at_point, noted_shown};
 
@@ -206,25 +206,12 @@ impl<D: PageDevice<PAGE>, const PAGE: usize> RecordedLane<D, PAGE> {
         requires start { start < point }
         requires rises { All (λ n. n.point < point) self.old.calls }
         requires own { IsOfLane self.old.store.layout self.old.lane key.now }
-
-        ensures recorded { IfOk result (λ answer. self.new ≡ record self.old {
-          store = self.new.store;
-          calls = self.old.calls ++ (record {
-            caller = caller;
-            start = start;
-            point = point;
-            key = key.now;
-            act = act_of moment answer;
-          }) ∷ [];
-        }) }
-
-        // The store's answer, and what it leaves.
+        ensures recorded { IfOk result (λ answer. RecordsCall self.old
+            (noted_at caller start point key.now (act_of moment answer)) self.new) }
         ensures gets { IfOk result (λ answer. StoreGets PAGE D.honest D.failures D.held key.now
             moment self.old.store (Ok answer) self.new.store) }
-
         // When it is refused, and what that leaves.
-        ensures full { IsErrOf result RecordFault.HistoryFull
-            ↔ (max_calls ≤ length self.old.calls) }
+        ensures full { IsErrOf result RecordFault.HistoryFull ↔ HasMostCalls self.old }
         ensures full_keeps { IsErrOf result RecordFault.HistoryFull → self.new ≡ self.old }
         ensures refused { OnErr result (LeavesUnrecorded PAGE D.honest D.failures D.held key.now
             moment self.old self.new) }
@@ -244,6 +231,8 @@ impl<D: PageDevice<PAGE>, const PAGE: usize> RecordedLane<D, PAGE> {
     ///
     /// A refused put leaves the lane as it was, so an older value of the key stays: `TooLarge` if the object does not
     /// fit on a page, else `HistoryFull` at `MAX_CALLS` calls, else `OutOfMemory`.
+    ///
+    /// Its head is long: it takes one by one what is recorded of a call and what a store is given, as users of the lane have them.
     pub fn put(
         &mut self,
         caller: u16,
@@ -257,27 +246,15 @@ impl<D: PageDevice<PAGE>, const PAGE: usize> RecordedLane<D, PAGE> {
         requires start { start < point }
         requires rises { All (λ n. n.point < point) self.old.calls }
         requires own { IsOfLane self.old.store.layout self.old.lane key }
-
-        ensures recorded { OnOk result (self.new ≡ record self.old {
-          store = self.new.store;
-          calls = self.old.calls ++ (record {
-            caller = caller;
-            start = start;
-            point = point;
-            key = key;
-            act = Act.Put value expires;
-          }) ∷ [];
-        }) }
-
-        // What becomes of the store.
+        ensures recorded { OnOk result (RecordsCall self.old
+            (noted_at caller start point key (Act.Put value expires)) self.new) }
         ensures puts { IfOk result (λ pushed. StorePuts PAGE D.held
             (record { key = key; value = timed value expires }) word self.old.store (Ok pushed)
             self.new.store) }
-
         // When it is refused, and what that leaves.
         ensures large { IsErrOf result RecordPutFault.TooLarge ↔ (room PAGE < object_size key value) }
         ensures full { IsErrOf result RecordPutFault.HistoryFull
-            ↔ ((object_size key value ≤ room PAGE) × (max_calls ≤ length self.old.calls)) }
+            ↔ ((object_size key value ≤ room PAGE) × HasMostCalls self.old) }
         ensures err { OnErr result (self.new ≡ self.old) }
     {
         if is_too_large::<PAGE>(&key, &value) {
@@ -311,24 +288,11 @@ impl<D: PageDevice<PAGE>, const PAGE: usize> RecordedLane<D, PAGE> {
         requires start { start < point }
         requires rises { All (λ n. n.point < point) self.old.calls }
         requires own { IsOfLane self.old.store.layout self.old.lane key.now }
-
-        ensures recorded { OnOk result (self.new ≡ record self.old {
-          store = self.new.store;
-          calls = self.old.calls ++ (record {
-            caller = caller;
-            start = start;
-            point = point;
-            key = key.now;
-            act = Act.Remove;
-          }) ∷ [];
-        }) }
-
-        // What becomes of the store.
+        ensures recorded { OnOk result (RecordsCall self.old
+            (noted_at caller start point key.now Act.Remove) self.new) }
         ensures removes { OnOk result (StoreRemoves D.held key.now self.old.store self.new.store) }
-
         // When it is refused, and what that leaves.
-        ensures full { IsErrOf result RecordFault.HistoryFull
-            ↔ (max_calls ≤ length self.old.calls) }
+        ensures full { IsErrOf result RecordFault.HistoryFull ↔ HasMostCalls self.old }
         ensures err { OnErr result (self.new ≡ self.old) }
     {
         if self.calls.len() >= MAX_CALLS {

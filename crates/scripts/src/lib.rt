@@ -10,9 +10,6 @@ mod script_lane;
 mod scripted;
 mod turn;
 
-pub use open_script_fault::OpenScriptFault;
-pub use recording::Recording;
 pub use script::{run_script, run_script_with_hasher};
 pub use script_fault::ScriptFault;
-pub use script_lane::ScriptLane;
 pub use scripted::Scripted;

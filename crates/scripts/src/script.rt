@@ -289,5 +289,6 @@ pub fn run_script_with_hasher<const PAGE: usize, S: BuildHasher + Copy, R: Read,
             Err(fault) => return Err(fault),
         }
     }
+    // Each line but the last has a line feed, and no input has that many bytes.
     unreachable!()
 }

@@ -186,6 +186,7 @@ impl<const PAGE: usize> ScriptLane<PAGE> {
         match write_trace(&recording.history, &recording.certificate, &mut bytes) {
             Ok(()) => Ok(bytes),
             Err(WriteTraceFault::WriteFault) => Err(AllocError),
+            // A recording has at most `MAX_CALLS` calls, and a position for each.
             Err(WriteTraceFault::TooMany) => unreachable!(),
             Err(WriteTraceFault::WrongCount) => unreachable!(),
         }

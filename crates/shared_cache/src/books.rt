@@ -30,6 +30,7 @@ use crate::listed_entry::ListedEntry;
 use crate::listed_ref::ListedRef;
 use crate::performing::perform;
 use crate::request::Request;
+use history_recorder::Stamps;
 use page_device::{Boxed, PageDevice};
 use record_pages::{Config, Key, Layout, Value};
 use recorded_lane::{MAX_CALLS, NotedRef, RecordedLane, RecordedParts};
@@ -313,7 +314,12 @@ impl<D: PageDevice<PAGE>, const PAGE: usize> LaneBook<D, PAGE> {
         let lane = self.recorded.lane();
         let position = self.recorded.len();
         take_room(&mut pass.calls, &mut pass.bytes)?;
-        let outcome = perform(&mut self.recorded, pass.caller, start, point, asked)?;
+        let stamps = Stamps {
+            caller: pass.caller,
+            start,
+            point,
+        };
+        let outcome = perform(&mut self.recorded, stamps, asked)?;
         let entry = keep(&mut pass.bytes, &self.recorded.at(position));
         let listed = ListedEntry {
             lane,

@@ -168,6 +168,7 @@ impl<D: PageDevice<PAGE>, P: EvictionPolicy + Drop, const PAGE: usize> SharedCac
     {
         match self.call(rt, pass, Request::Get(key, moment)) {
             Ok(Response::Got(answer)) => Ok(answer),
+            // A call gives what its kind of request asks for.
             Ok(_) => unreachable!(),
             Err(fault) => Err(fault),
         }
@@ -197,6 +198,7 @@ impl<D: PageDevice<PAGE>, P: EvictionPolicy + Drop, const PAGE: usize> SharedCac
         }
         match self.call(rt, pass, Request::Put(key, value, word, expires)) {
             Ok(Response::Stored(pushed)) => Ok(pushed),
+            // As of a get.
             Ok(_) => unreachable!(),
             Err(fault) => Err(fault),
         }
@@ -214,6 +216,7 @@ impl<D: PageDevice<PAGE>, P: EvictionPolicy + Drop, const PAGE: usize> SharedCac
     {
         match self.call(rt, pass, Request::Remove(key)) {
             Ok(Response::Removed) => Ok(()),
+            // As of a get.
             Ok(_) => unreachable!(),
             Err(fault) => Err(fault),
         }

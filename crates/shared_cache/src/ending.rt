@@ -149,10 +149,7 @@ fn caller_of(passes: &[Pass], place: usize) -> u16
     requires { place < length passes.now }
     ensures { IsSomeAnd (slice_get passes.now place) (λ p. p.caller ≡ result) }
 {
-    match passes.get(place) {
-        Some(pass) => pass.caller(),
-        None => unreachable!(),
-    }
+    passes[place].caller()
 }
 
 /// The calls that each pass lists, lent.
@@ -215,6 +212,7 @@ fn fault_of(lane: u32, fault: LaneFault) -> FinishFault
     match fault {
         LaneFault::OutOfMemory => FinishFault::OutOfMemory,
         LaneFault::Unlisted { position } => FinishFault::Unlisted { lane, position },
+        // `first_place` found no lane with a strange call.
         LaneFault::Strange { place: _ } => unreachable!(),
     }
 }

@@ -29,10 +29,8 @@ pub(crate) fn passes_of(
 {
     let mut seats = seats;
     let mut passes = Vec::with_capacity(alloc, usize::from(callers))?;
-    for caller in 0..callers {
-        let Some(seat) = seats.pop() else {
-            unreachable!()
-        };
+    while let Some(seat) = seats.pop() {
+        let caller = passes.len() as u16;
         passes.push(Pass::new(alloc, caller, seat))?;
     }
     Ok(passes)
@@ -51,10 +49,8 @@ pub(crate) fn books_of<D: PageDevice<PAGE>, const PAGE: usize>(
 {
     let mut books = Vec::with_capacity(alloc, layout.lanes as usize)?;
     let mut devices = VecDeque::from(devices);
-    for lane in 0..layout.lanes {
-        let Some(device) = devices.pop_front() else {
-            unreachable!()
-        };
+    while let Some(device) = devices.pop_front() {
+        let lane = books.len() as u32;
         let book = LaneBook::new(alloc, layout, lane, device)?;
         books.push(Mutex::new(CachePadded::new(book)))?;
     }

@@ -3,7 +3,7 @@ ghost use Rattle.std.specs.Prelude.{◌≡◌, ◌<◌, All, IfOk};
 
 use super::gate::Gate;
 use super::opened::{Cache, PLAIN, Setup, opened};
-use super::run::{Ran, call, run};
+use super::run::{CallerText, Ran, call, run};
 use super::test_device::TestDevice;
 use certificate_checker::{Fault, Verdict, check};
 use shared_cache::{FinishFault, Finished, Pass};
@@ -433,17 +433,22 @@ fn end_after<R: Threads + Wait + Sync + Eprint>(
         second,
         lane,
     } = shared;
+    let first = CallerText {
+        pass: first,
+        lane,
+        text: beside.first,
+    };
+    let second = CallerText {
+        pass: second,
+        lane,
+        text: beside.second,
+    };
     let (first, second) = if matches!(way, Way::OneByOne) {
-        let first = in_a_thread(rt, alloc, &*cache, first, lane, beside.first);
-        (
-            first,
-            in_a_thread(rt, alloc, &*cache, second, lane, beside.second),
-        )
+        let first = in_a_thread(rt, alloc, &*cache, first);
+        (first, in_a_thread(rt, alloc, &*cache, second))
     } else {
         let is_held = matches!(way, Way::AtTheGate);
-        in_threads(
-            rt, alloc, &*cache, gate, is_held, lane, beside, first, second,
-        )
+        in_threads(rt, alloc, &*cache, gate, is_held, first, second)
     };
     let passes = both_of(alloc, first, second)?;
     finished(rt, alloc, cache, passes)
@@ -463,18 +468,17 @@ fn in_a_thread<R: Threads + Wait + Sync + Eprint>(
     rt: &R,
     alloc: Global,
     cache: &Cache,
-    pass: Pass,
-    lane: u32,
-    text: &[u8],
+    calls: CallerText<'_>,
 ) -> Ran
-    requires clock { pass.sight.clock ≡ cache.now.clock }
-    requires lane { lane < cache.now.layout.lanes }
+    requires clock { calls.pass.sight.clock ≡ cache.now.clock }
+    requires lane { calls.lane < cache.now.layout.lanes }
 {
     let (ran, ()) = join(
         rt,
         || -> Ran
-            requires { (pass.sight.clock ≡ cache.now.clock) × (lane < cache.now.layout.lanes) }
-        { run(rt, alloc, cache, pass, lane, text) },
+            requires { (calls.pass.sight.clock ≡ cache.now.clock)
+                × (calls.lane < cache.now.layout.lanes) }
+        { run(rt, alloc, cache, calls) },
         || (),
     );
     ran
@@ -487,25 +491,26 @@ fn in_threads<R: Threads + Wait + Sync + Eprint>(
     cache: &Cache,
     gate: &Gate,
     is_held: bool,
-    lane: u32,
-    beside: Beside<'_>,
-    first: Pass,
-    second: Pass,
+    first: CallerText<'_>,
+    second: CallerText<'_>,
 ) -> (Ran, Ran)
-    requires first { first.sight.clock ≡ cache.now.clock }
-    requires second { second.sight.clock ≡ cache.now.clock }
-    requires lane { lane < cache.now.layout.lanes }
+    requires first { first.pass.sight.clock ≡ cache.now.clock }
+    requires first_lane { first.lane < cache.now.layout.lanes }
+    requires second { second.pass.sight.clock ≡ cache.now.clock }
+    requires second_lane { second.lane < cache.now.layout.lanes }
 {
     join(
         rt,
         || -> Ran
-            requires { (first.sight.clock ≡ cache.now.clock) × (lane < cache.now.layout.lanes) }
-        { run(rt, alloc, cache, first, lane, beside.first) },
+            requires { (first.pass.sight.clock ≡ cache.now.clock)
+                × (first.lane < cache.now.layout.lanes) }
+        { run(rt, alloc, cache, first) },
         || -> Ran
-            requires { (second.sight.clock ≡ cache.now.clock) × (lane < cache.now.layout.lanes) }
+            requires { (second.pass.sight.clock ≡ cache.now.clock)
+                × (second.lane < cache.now.layout.lanes) }
         {
             let is_reached = is_held && gate.is_reached();
-            let ran = run(rt, alloc, cache, second, lane, beside.second);
+            let ran = run(rt, alloc, cache, second);
             if is_reached {
                 gate.open();
             }

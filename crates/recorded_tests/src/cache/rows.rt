@@ -29,6 +29,19 @@ use shared_cache::{
 use std::sync::Wait;
 use std::thread::Threads;
 
+/// What is put: a value of a key, by the word of its admission, until a moment.
+#[derive(Drop)]
+pub struct PutObject {
+    /// The key.
+    pub key: Key,
+    /// Its value.
+    pub value: Value,
+    /// The word of its admission.
+    pub word: u32,
+    /// The moment at which it expires, or `NEVER`.
+    pub expires: u64,
+}
+
 /// A get under a lane's lock is answered what memory has of its key, over any device. Over an honest one that does not fail
 /// it is answered what the lane shows. Its answer is what is recorded. So no hit is told as a miss, no value is made up, and
 /// no lane is made anew.
@@ -64,22 +77,27 @@ pub fn a_put_is_what_the_next_get_is_answered<D: PageDevice<PAGE>, const PAGE: u
     clock: &Clock,
     pass: &mut Pass,
     start: u64,
-    key: Key,
-    value: Value,
-    word: u32,
-    expires: u64,
+    object: PutObject,
     again: &Key,
     moment: u64,
 ) -> Option<ActAnswer>
     requires clock { pass.old.sight.clock ≡ clock.now }
     requires start { start ≤ pass.old.sight.seen }
-    requires own { IsOfLane book.old.store.layout book.old.lane key }
-    requires fits { object_size key value ≤ room PAGE }
-    requires same { again.now ≡ key }
+    requires own { IsOfLane book.old.store.layout book.old.lane object.key }
+    requires fits { object_size object.key object.value ≤ room PAGE }
+    requires same { again.now ≡ object.key }
     ensures { 1 ≤ book.old.store.memory.capacity → IfSome result (λ acted.
-        acted.outcome ≡ Got (answer_by (value_at moment (timed value expires)) Memory)) }
+        acted.outcome
+        ≡ Got (answer_by (value_at moment (timed object.value object.expires)) Memory)) }
 {
-    let Ok(_) = book.act(clock, pass, start, Request::Put(key, value, word, expires)) else {
+    let PutObject {
+        key,
+        value,
+        word,
+        expires,
+    } = object;
+    let put = Request::Put(key, value, word, expires);
+    let Ok(_) = book.act(clock, pass, start, put) else {
         return None;
     };
     match book.act(clock, pass, start, Request::Get(again, moment)) {
@@ -100,19 +118,22 @@ pub fn a_put_and_a_get_are_listed_in_turn<
     rt: &R,
     cache: &SharedCache<D, P, PAGE>,
     pass: &mut Pass,
-    key: Key,
-    value: Value,
-    word: u32,
-    expires: u64,
+    object: PutObject,
     other: &Key,
     moment: u64,
 ) -> Option<Answer>
     requires { pass.old.sight.clock ≡ cache.now.clock }
     ensures { IfSome result (λ told. (put : Listed) × (got : Listed)
         × (pass.new.calls ≡ pass.old.calls ++ put ∷ got ∷ [])
-        × (put.call.key ≡ key) × (put.call.act ≡ Act.Put value expires)
+        × (put.call.key ≡ object.key) × (put.call.act ≡ Act.Put object.value object.expires)
         × (put.end < got.call.start) × (got.call.act ≡ act_of moment told)) }
 {
+    let PutObject {
+        key,
+        value,
+        word,
+        expires,
+    } = object;
     let Ok(_) = cache.put(rt, pass, key, value, word, expires) else {
         return None;
     };

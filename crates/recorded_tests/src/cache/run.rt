@@ -45,6 +45,14 @@ impl<'a, R: Wait> Scripted for Caller<'a, R> {
     }
 }
 
+/// A caller's pass, the lane of its rounds, and the text of the calls that it makes.
+#[derive(Drop)]
+pub struct CallerText<'a> {
+    pub pass: Pass,
+    pub lane: u32,
+    pub text: &'a [u8],
+}
+
 /// A pass after the calls of a text, and whether no line of it was wrong.
 #[derive(Drop)]
 pub struct Ran {
@@ -53,17 +61,11 @@ pub struct Ran {
 }
 
 /// Makes the calls of a text, if it has any, up to the first line that is wrong, which is printed.
-pub fn run<R: Wait + Eprint>(
-    rt: &R,
-    alloc: Global,
-    cache: &Cache,
-    pass: Pass,
-    lane: u32,
-    text: &[u8],
-) -> Ran
-    requires clock { pass.sight.clock ≡ cache.now.clock }
-    requires lane { lane < cache.now.layout.lanes }
+pub fn run<R: Wait + Eprint>(rt: &R, alloc: Global, cache: &Cache, calls: CallerText<'_>) -> Ran
+    requires clock { calls.pass.sight.clock ≡ cache.now.clock }
+    requires lane { calls.lane < cache.now.layout.lanes }
 {
+    let CallerText { pass, lane, text } = calls;
     let mut caller = Caller {
         rt,
         cache,

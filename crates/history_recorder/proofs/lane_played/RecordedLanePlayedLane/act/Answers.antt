@@ -40,16 +40,16 @@ act_remove-requires g c =
 pub returns-in-Ok : goal.returns-in-Ok
 returns-in-Ok g c =
     let a = c.args in
-    subst (λ (o : Operation). LaneActs g.D.PageDevice.honest g.D.PageDevice.held g.row.PAGE a.caller a.start a.point o a.self.now c.in-Ok.acted c.act_get.new.recorded) (sym c.in-Get.is) c.in-Ok.ensures
+    subst (λ (o : Operation). LaneActs g.D.PageDevice.honest g.D.PageDevice.held g.row.PAGE a.stamps.caller a.stamps.start a.stamps.point o a.self.now c.in-Ok.acted c.act_get.new.recorded) (sym c.in-Get.is) c.in-Ok.ensures
 
 pub returns-in_ok-noted-in-Put : goal.returns-in_ok-noted-in-Put
 returns-in_ok-noted-in-Put g c =
     let a = c.args in
     let put = c.in-Put in
     let acts : Operation → Noted → Type 0 = λ o n. LaneActs g.D.PageDevice.honest g.D.PageDevice.held g.row.PAGE n.caller n.start n.point o a.self.now c.act_put.result c.act_put.new.recorded in
-    subst (λ (o : Operation). acts o (record { caller = a.caller; start = a.start; point = a.point; key = put.key; act = Put put.value put.expires })) (sym put.is) (subst (acts (operations.Put put.key put.value put.word put.expires)) c.in_ok-noted-in-Put.ensures c.act_put.ensures)
+    subst (λ (o : Operation). acts o (record { caller = a.stamps.caller; start = a.stamps.start; point = a.stamps.point; key = put.key; act = Put put.value put.expires })) (sym put.is) (subst (acts (operations.Put put.key put.value put.word put.expires)) c.in_ok-noted-in-Put.ensures c.act_put.ensures)
 
 pub returns-in-Remove : goal.returns-in-Remove
 returns-in-Remove g c =
     let a = c.args in
-    subst (λ (o : Operation). LaneActs g.D.PageDevice.honest g.D.PageDevice.held g.row.PAGE a.caller a.start a.point o a.self.now c.act_remove.result c.act_remove.new.recorded) (sym c.in-Remove.is) c.act_remove.ensures
+    subst (λ (o : Operation). LaneActs g.D.PageDevice.honest g.D.PageDevice.held g.row.PAGE a.stamps.caller a.stamps.start a.stamps.point o a.self.now c.act_remove.result c.act_remove.new.recorded) (sym c.in-Remove.is) c.act_remove.ensures

@@ -17,6 +17,6 @@ returns-in-Ok-get g c =
     let mid = c.put.new.pass in
     let first = c.in-Ok.ensures.made in
     let second = c.in-Ok-get.ensures.made in
-    let put : Listed = listing (lane_of_key layout a.key) first.position a.pass.now.caller first.start first.point mid.sight.seen (Put a.key a.value a.word a.expires) (Stored c.in-Ok.field-0) in
+    let put : Listed = listing (lane_of_key layout a.object.key) first.position a.pass.now.caller first.start first.point mid.sight.seen (Put a.object.key a.object.value a.object.word a.object.expires) (Stored c.in-Ok.field-0) in
     let got : Listed = listing (lane_of_key layout a.other.now) second.position mid.caller second.start second.point c.get.new.pass.sight.seen (Get a.other.now a.moment) (Got c.in-Ok-get.told) in
     (put, got, two_more a.pass.now.calls mid.calls c.get.new.pass.calls put got first.listed second.listed, refl, refl, second.started, refl)
