@@ -26,7 +26,8 @@ use Rattle.mover.specs.declared.copy_fate.CopyFate.{CopyFate}
 use Rattle.mover.specs.declared.copy_fate.CopyFate.TheVariants as fates
 use Rattle.mover.proofs.public_laws.Showing.{some_same}
 use Rattle.service_lane.specs.Asked.{IsLiveHit}
-use Rattle.service_lane.specs.Leases.{LeaseSlots, hash_by, slot_of, slot_for, writes_for, with_write, one_more, most_writes, HoldsLease}
+use Rattle.service_lane.specs.declared.lease.Lease.{Lease}
+use Rattle.service_lane.specs.Leases.{LeaseSlots, hash_by, slot_of, slot_for, writes_for, lease_for, with_write, one_more, most_writes, HoldsLease}
 use Rattle.service_lane.specs.Serving.{Serving}
 use Rattle.klog.specs.declared.flushed.Flushed.{Flushed}
 use Rattle.service_lane.specs.Counters.{number, place_of, with_one_if}
@@ -97,15 +98,16 @@ grows n false is few same =
     absurd (omega (arith, few, most))
 
 -- a lease of a key does not hold after one more write of it
-pub lease_ended : (slots after : LeaseSlots) (key : List ℕ) (writes : ℕ) → 1 ≤ length slots.writes → writes ≡ writes_for slots key → after ≡ with_write slots key → HoldsLease after key writes → ⊥
-lease_ended slots after key writes some leased written holds =
+pub lease_ended : (slots after : LeaseSlots) (key : List ℕ) (lease : Lease) → 1 ≤ length slots.writes → lease ≡ lease_for slots key → after ≡ with_write slots key → HoldsLease after key lease → ⊥
+lease_ended slots after key lease some leased written holds =
     let slot = slot_for slots key in
     let n = get_or slots.writes slot 0 in
     let seen = one_more n in
     let within : slot < length slots.writes = mod_below (hash_by slots.seed key / 2 ^ 32) (length slots.writes) some in
     let shows : writes_for after key ≡ seen =
     ap (λ (s : LeaseSlots). writes_for s key) written ∙ ap (λ count. get_or (set slots.writes slot seen) (slot_of slots.seed count key) 0) (length-set slots.writes slot seen) ∙ get_or-set_same slots.writes slot seen 0 within in
-    grows n (ltb n most_writes) refl (subst (λ w. w < most_writes) leased holds.few) (sym shows ∙ holds.same ∙ leased)
+    let was : lease.writes ≡ n = ap (λ (l : Lease). l.writes) leased in
+    grows n (ltb n most_writes) refl (subst (λ w. w < most_writes) was holds.few) (sym shows ∙ ap (λ (l : Lease). l.writes) holds.same ∙ was)
 
 -- ---- counters and upkeep
 

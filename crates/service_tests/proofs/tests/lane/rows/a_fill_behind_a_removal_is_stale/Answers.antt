@@ -9,10 +9,10 @@ pub returns-in-Ok : goal.returns-in-Ok
 returns-in-Ok g c =
     let a = c.args in
     let removed = c.remove.new.self in
-    let writes = c.lease-lease.result.writes in
+    let lease = c.lease-lease.result in
     let stays = ap (λ (s : Serving g.row.D.Denot). with_write s.slots a.name.now) c.lease-lease.ensures.leaves in
-    let ended : HoldsLease removed.slots a.key writes → ⊥ = λ holds.
-    lease_ended a.lane.now.slots removed.slots a.name.now writes c.layout-layout.ensures.slots c.lease-lease.ensures.lease (c.in-Ok.ensures.removed.slots ∙ stays) (subst (λ (k : List ℕ). HoldsLease removed.slots k writes) (sym c.requires) holds) in
+    let ended : HoldsLease removed.slots a.key lease → ⊥ = λ holds.
+    lease_ended a.lane.now.slots removed.slots a.name.now lease c.layout-layout.ensures.slots c.lease-lease.ensures.lease (c.in-Ok.ensures.removed.slots ∙ stays) (subst (λ (k : List ℕ). HoldsLease removed.slots k lease) (sym c.requires) holds) in
     rw (c.fill.ensures.stale.1 ended) refl
 
 pub layout-layout-requires : goal.layout-layout-requires
