@@ -1,5 +1,5 @@
 -- Files that are judged in turn.
-use Rattle.std.proofs.Common.{◌≡◌, ◌<◌, ◌+◌, ◌∙◌, ℕ, Bool, true, false, ap, length, sym, take, List, [], ◌∷◌, ◌++◌, Option, fold, refl, subst}
+use Rattle.std.proofs.Common.{◌≡◌, ◌<◌, ◌+◌, ◌∙◌, ℕ, Bool, ap, length, sym, take, List, [], ◌∷◌, ◌++◌, Option, fold, refl, subst}
 use Rattle.std.proofs.Math.ListN.{get_or}
 use Rattle.std.proofs.lemmas.List.{take_more}
 use Rattle.figures.specs.declared.form.Form.{Form}
@@ -9,7 +9,7 @@ use Rattle.judge_run.specs.declared.tell_fault.TellFault.{TellFault}
 use Rattle.judge_run.specs.declared.tell_fault.TellFault.TheVariants.{OutOfMemory, CountFull, ReadFault, WriteFault}
 use Rattle.judge_run.specs.Ends.{end_of_fault, status_of}
 use Rattle.judge_run.specs.Inputs.{IsStandardInput}
-use Rattle.judge_run.specs.Runs.{AreJudged, IsHeaded, IsJudgeRun, IsJudgeRunOn, JudgedFile, JudgedInTurn, is_headed, name_in, worse_of, worst_of}
+use Rattle.judge_run.specs.Runs.{AreJudged, IsHeaded, IsJudgeRunOn, JudgedFile, JudgedInTurn, is_headed, name_in, worse_of, worst_of}
 
 module _ (form : Form) (scope : Scope) (detail : Detail) (least : ℕ) (several : Bool) where
   -- one file

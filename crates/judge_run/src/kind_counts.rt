@@ -48,12 +48,9 @@ fn added_with(added: u64, from_start: Option<usize>) -> Result<u64, ReadTextFaul
     ensures fault { IfErr result (λ fault. fault ≡ ReadTextFault.CountFull) }
     ensures over { OnErr result (2 ^ 64 ≤ added + unwrap_or from_start 0) }
 {
-    let Some(values) = from_start else {
-        return Ok(added);
-    };
-    match added.checked_add(values as u64) {
-        Some(sum) => Ok(sum),
-        None => Err(ReadTextFault::CountFull),
+    match from_start {
+        Some(values) => more(added, values, 0),
+        None => Ok(added),
     }
 }
 

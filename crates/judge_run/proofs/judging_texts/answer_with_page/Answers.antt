@@ -1,5 +1,5 @@
 -- The report on what was judged, or on a bad line, was written, or a front of it.
-use Rattle.std.proofs.Common.{◌∙◌, List, Option, ℕ, ap, option_map, string_bytes, subst, sym}
+use Rattle.std.proofs.Common.{◌∙◌, ap, option_map, string_bytes, subst, sym}
 use Rattle.history_text.specs.Text.{text_by}
 use Rattle.history_text.specs.Writing.{named}
 use Rattle.judge_run.specs.declared.outcome.Outcome.{Outcome}

@@ -1,5 +1,5 @@
 -- A line, by what is asked of it in turn.
-use Rattle.std.proofs.Common.{◌≡◌, ◌∙◌, ◌≤◌, ◌<◌, ℕ, Bool, true, false, List, Result, Ok, ap, arith, length, refl, subst, sym}
+use Rattle.std.proofs.Common.{◌≡◌, ◌∙◌, ◌≤◌, ◌<◌, true, false, Result, ap, arith, refl, subst, sym}
 use Rattle.history_text.specs.declared.line_cause.LineCause.{LineCause}
 use Rattle.history_text.specs.Readings.{is_in_share}
 use Rattle.history_text.specs.Spelled.{IsSaid, spelled_by}
