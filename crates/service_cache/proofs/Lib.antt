@@ -6,3 +6,4 @@ mod Helping
 mod Latest
 mod Refusing
 mod Seating
+mod AtLanes

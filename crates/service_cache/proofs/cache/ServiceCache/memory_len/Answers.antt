@@ -1,0 +1,13 @@
+-- The lane that was held has the number.
+use Rattle.std.proofs.Common.{ap, ◌∙◌}
+use Rattle.crossbeam_utils.specs.Padded.{padded_value}
+use Rattle.page_device.specs.Counting.{CountedDevice}
+use Rattle.service_cache.specs.Seated.{Seated}
+use Rattle.service_cache.proofs.cache.ServiceCache.memory_len.Goals as goal
+
+pub returns : goal.returns
+returns g c = record {
+  held = c.deref_mut-held.result.now;
+  number_is = ap (λ (s : Seated (CountedDevice g.row.D.Denot)). s.register.number) (c.deref_mut-held.ensures.value ∙ ap padded_value c.deref_mut.ensures.value) ∙ c.hold-guard.ensures;
+  was = c.memory_len.ensures;
+}
