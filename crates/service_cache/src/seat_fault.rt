@@ -22,7 +22,7 @@ pub enum SeatFault {
 impl SeatFault {
     /// Why a call of these bytes is refused whose lane shows writes of another register: what the bytes are refused for comes
     /// first.
-    pub(crate) fn foreign(key: &[u8]) -> SeatFault
+    pub fn foreign(key: &[u8]) -> SeatFault
         ensures get { RefusesGet key.now result }
         ensures removal { RefusesRemoval key.now result }
     {

@@ -32,7 +32,7 @@ pub fn what_is_due(usage: &LogUsage) -> Option<Due>
 
 /// Whether something is due, and a lane whose log is so full is near the end of its room: a segment is flushed while more than 3
 /// of 4 pages of the one that is filled hold records, or more than 31 of 32 records that may be live are.
-pub(crate) fn is_near_end(usage: &LogUsage) -> bool
+pub fn is_near_end(usage: &LogUsage) -> bool
     ensures { result ≡ is_near_end usage.now }
 {
     let filled = 4 * u64::from(usage.filled_pages) > 3 * u64::from(usage.segment_pages);

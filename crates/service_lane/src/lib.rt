@@ -24,7 +24,7 @@ mod words;
 pub use copied::Copied;
 pub use counter::Counter;
 pub use counts::{COUNTERS, Counts};
-pub use due::{Due, what_is_due};
+pub use due::{Due, is_near_end, what_is_due};
 pub use filled::Filled;
 pub use helped::{Helped, MAX_HELP_STEPS};
 pub use key_buffer::KeyBuffer;
