@@ -56,11 +56,11 @@ def next_second(it):
 
 @shows("--slow=MS: a request that takes longer is told, with command, outcome, tier and microseconds, and no other is")
 def slow_requests():
-    with delayed_server("--slow=40") as (it, delays):
+    with delayed_server("--slow=400") as (it, delays):
         client = it.client()
         client.ask(b"set a 0 0 1\r\nx\r\nget a\r\nget b\r\n", b"STORED\r\nVALUE a 0 1\r\nx\r\nEND\r\nEND\r\n")
         equal(slow_lines(it), [], "lines before there is a delay")
-        delays.set(0.09)
+        delays.set(0.5)
         client.ask(b"get a\r\n", b"VALUE a 0 1\r\nx\r\nEND\r\n")
         client.ask(b"get b\r\n", b"END\r\n")
         client.ask(b"set a 0 0 1\r\ny\r\n", b"STORED\r\n")
@@ -73,7 +73,7 @@ def slow_requests():
         lines = slow_lines(it)
         equal([(line["command"], line["outcome"], line["tier"]) for line in lines],
               [("get", "hit", "memory"), ("get", "miss", "-"), ("set", "stored", "-")], "what was told")
-        expect(all(90_000 <= int(line["us"]) < 5_000_000 for line in lines), lines)
+        expect(all(500_000 <= int(line["us"]) < 5_000_000 for line in lines), lines)
         expect(lines[0]["bytes"].endswith('a"') and lines[1]["bytes"].endswith('b"') and lines[2]["bytes"] == '"set a 0 0 1"', lines)
         equal({line["untold"] for line in lines}, {"0"}, "what was not told")
 
