@@ -154,7 +154,7 @@ module _ (scope : Scope) (window least : ℕ) (unended : Bool) (known left : Opt
 
 -- ---- a reading of some calls
 
-calls_read : Result TextRead BadLine → ℕ
+abbrev calls_read : Result TextRead BadLine → ℕ
 calls_read (Ok read) = length read.text.calls
 calls_read (Err bad) = 0
 

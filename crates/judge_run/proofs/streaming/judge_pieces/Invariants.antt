@@ -5,11 +5,11 @@ use Rattle.judge_run.specs.Streams.{IsHeld}
 use Rattle.judge_run.proofs.streaming.judge_pieces.Given as goal
 
 -- so far the stream goes on
-abbrev pub invariant-loop : goal.invariant-loop
-invariant-loop g l = record {
+abbrev pub invariant-loop-end : goal.invariant-loop-end
+invariant-loop-end g l = record {
   ahead : IsAhead l.lines.ahead (g.R.Read.remaining l.reader);
   held : IsHeld l.rule (g.R.Read.remaining l.fn.reader) (left_of l.lines (g.R.Read.remaining l.reader)) l.lines l.stream;
 }
 
-abbrev pub decreases-loop : goal.decreases-loop
-decreases-loop g l = (2 ^ 63 + 1) - l.lines.number
+abbrev pub decreases-loop-end : goal.decreases-loop-end
+decreases-loop-end g l = (2 ^ 63 + 1) - l.lines.number

@@ -9,7 +9,7 @@ returns-then-is_accepted-clause-judged g c =
     let unended : not c.args.over ≡ true = ap not c.if-not-over.true in
     elim c.match-go_on.branch [
       | in-Ok-go_on w ↦ rw w.result-is (λ rule known left progress bound_is last ended counted.
-          w.in-Ok-go_on.ensures rule known left progress bound_is
+          w.in-Ok-go_on.ensures.held rule known left progress bound_is
           (subst (λ (more : Bool). IsPieceJudged rule more known left progress c.args.from_start c.args.stream.now) unended last))
       | in-Err w ↦ rw w.result-is tt
     ]
