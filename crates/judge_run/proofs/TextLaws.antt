@@ -1,6 +1,6 @@
 -- What is told of a text, by what was found for what it spells.
-use Rattle.std.proofs.Common.{◌≡◌, ◌∙◌, ℕ, Bool, List, Option, ap, length, subst, sym}
-use Rattle.std.specs.Io.KnownBytes.{Appends}
+use Rattle.std.proofs.Common.{◌≡◌, ◌∙◌, ℕ, Bool, List, Option, Some, None, ap, length, refl, subst, sym}
+use Rattle.std.specs.Io.KnownBytes.{Appends, Keeps}
 use Rattle.trace_file.specs.declared.call.Call.{Call}
 use Rattle.certificate_finder.specs.declared.found.Found.TheVariants as found
 use Rattle.certificate_finder.specs.declared.witness.Witness.{Witness}
@@ -50,6 +50,11 @@ text_told form scope known detail text extent accepted decided (BadLine bad) tol
 text_told form scope known detail text extent accepted decided (BadTrace fault) told judged a d is = absurd is
 
 -- ---- what was written of a report
+
+-- nothing
+pub keeps_same : (known : Option (List ℕ)) → Keeps known known
+keeps_same None = tt
+keeps_same (Some bytes) = refl
 
 module _ (form : Form) (scope : Scope) (known : Option (List ℕ)) (detail : Detail) (file : Option (List ℕ)) (outcome : Outcome) (told : List ℕ) (old new : Option (List ℕ)) (is : IsTextTold form scope known detail outcome told) where
   -- all of it

@@ -44,7 +44,7 @@ use history_text::{BadLine, ReadTextFault, TextHistory};
 use std::alloc::{AllocError, Global};
 use std::hash::BuildHasher;
 use std::io::{Read, Write};
-use trace_file::{Certificate, History, Trace, Unwritten, write_whole};
+use trace_file::{Certificate, History, Trace, write_whole};
 
 /// Judges the history that a text spells, and tells its verdict, as it is asked. If the history is rejected and that is wanted, it
 /// tells all its faults after the verdict, and then why it is rejected. If a file is named, the form is an object, and its first member is that name. It flushes nothing. The tables hash by `hash_builder`. Whoever wrote the text should not know its seed.
@@ -124,18 +124,18 @@ fn write_report<W: Write>(
         page,
     } = told;
     let Some(name) = file else {
-        return match write_whole(writer, text.as_bytes()) {
-            Ok(()) => Ok(PagedOutcome { outcome, page }),
-            Err(Unwritten) => Err(TellFault::WriteFault),
+        let Ok(()) = write_whole(writer, text.as_bytes()) else {
+            return Err(TellFault::WriteFault);
         };
+        return Ok(PagedOutcome { outcome, page });
     };
     let Ok(bytes) = named_object(alloc, name, text.as_bytes()) else {
         return Err(TellFault::OutOfMemory);
     };
-    match write_whole(writer, &bytes) {
-        Ok(()) => Ok(PagedOutcome { outcome, page }),
-        Err(Unwritten) => Err(TellFault::WriteFault),
-    }
+    let Ok(()) = write_whole(writer, &bytes) else {
+        return Err(TellFault::WriteFault);
+    };
+    Ok(PagedOutcome { outcome, page })
 }
 
 /// The report on a text that was judged, and its page, if it is wanted.
