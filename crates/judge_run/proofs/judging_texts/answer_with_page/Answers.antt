@@ -1,10 +1,11 @@
 -- The report on what was judged, or on a bad line, was written, or a front of it.
 use Rattle.std.proofs.Common.{◌∙◌, ap, option_map, string_bytes, subst, sym}
+use Rattle.history_text.specs.declared.read_text_fault.ReadTextFault.{ReadTextFault}
 use Rattle.history_text.specs.Text.{text_by}
 use Rattle.history_text.specs.Writing.{named}
 use Rattle.judge_run.specs.declared.outcome.Outcome.{Outcome}
 use Rattle.judge_run.specs.Paged.{IsPagedIf}
-use Rattle.judge_run.specs.Streams.{was_accepted, was_decided}
+use Rattle.judge_run.specs.Streams.{IsFaultBy, was_accepted, was_decided}
 use Rattle.judge_run.specs.TextTold.{IsTextTold}
 use Rattle.judge_run.proofs.PageLaws.{paged_if}
 use Rattle.judge_run.proofs.TextLaws.{text_told, text_unwritten, text_written}
@@ -56,8 +57,8 @@ returns-in-Ok-write_report-2-clause-ok g c =
     let told = c.in-Ok-told_bad_line.told in
     let known = g.R.Read.remaining c.args.reader.now in
     let bytes = string_bytes told.text in
-    let is = subst (λ (o : Outcome). IsTextTold asked.form asked.scope known asked.detail o bytes) (sym c.in-Ok-told_bad_line.ensures.bad) (record { read = c.in-Err-Bad.ensures.fault; told_is = c.in-Ok-told_bad_line.ensures.text }) in
-    text_written asked.form asked.scope known asked.detail (named asked.file) told.outcome bytes (g.W.Write.contents c.args.writer.now) (g.W.Write.contents c.write_report-2.new.writer) is c.in-Ok-write_report-2.answer.outcome c.in-Ok-write_report-2.ensures.outcome c.in-Ok-write_report-2.ensures.wrote
+    let is = subst (λ (o : Outcome). IsTextTold asked.form asked.scope known asked.detail o bytes) (sym c.in-Ok-told_bad_line.ensures.bad) (record { read = subst (λ (f : ReadTextFault). IsFaultBy asked.scope.window asked.scope known f) c.in-Err-Bad.field-0-is c.in-Err-Bad.ensures.fault; told_is = c.in-Ok-told_bad_line.ensures.text }) in
+    text_written asked.form asked.scope known asked.detail (named asked.file) told.outcome bytes (g.W.Write.contents c.args.writer.now) (g.W.Write.contents c.write_report-in-Ok-told_bad_line.new.writer) is c.in-Ok-write_report-2.answer.outcome c.in-Ok-write_report-2.ensures.outcome c.in-Ok-write_report-2.ensures.wrote
 
 pub returns-in-Ok-write_report-2-clause-page : goal.returns-in-Ok-write_report-2-clause-page
 returns-in-Ok-write_report-2-clause-page g c =
@@ -72,5 +73,5 @@ returns-in-Err-write_report-2-clause-err g c =
     let told = c.in-Ok-told_bad_line.told in
     let known = g.R.Read.remaining c.args.reader.now in
     let bytes = string_bytes told.text in
-    let is = subst (λ (o : Outcome). IsTextTold asked.form asked.scope known asked.detail o bytes) (sym c.in-Ok-told_bad_line.ensures.bad) (record { read = c.in-Err-Bad.ensures.fault; told_is = c.in-Ok-told_bad_line.ensures.text }) in
-    text_unwritten asked.form asked.scope known asked.detail (named asked.file) told.outcome bytes (g.W.Write.contents c.args.writer.now) (g.W.Write.contents c.write_report-2.new.writer) is c.in-Err-write_report-2.fault c.in-Err-write_report-2.ensures.err
+    let is = subst (λ (o : Outcome). IsTextTold asked.form asked.scope known asked.detail o bytes) (sym c.in-Ok-told_bad_line.ensures.bad) (record { read = subst (λ (f : ReadTextFault). IsFaultBy asked.scope.window asked.scope known f) c.in-Err-Bad.field-0-is c.in-Err-Bad.ensures.fault; told_is = c.in-Ok-told_bad_line.ensures.text }) in
+    text_unwritten asked.form asked.scope known asked.detail (named asked.file) told.outcome bytes (g.W.Write.contents c.args.writer.now) (g.W.Write.contents c.write_report-in-Ok-told_bad_line.new.writer) is c.in-Err-write_report-2.fault c.in-Err-write_report-2.ensures.err
