@@ -10,6 +10,7 @@ from harness import Server, equal, expect, shows, wait_for
 ANSWER = b"VALUE a 0 1\r\nx\r\nEND\r\n"
 LINE = re.compile(rb"kangarood: (info: .*|warning: .*|debug: [<>]\d+ .*)")
 LOST = re.compile(rb"kangarood: warning: (\d+) lines were not written: nobody read them in time")
+MANY_LOST = re.compile(LOST.pattern.replace(rb"\d+", rb"\d{4,}"))  # a busy machine may lose some before the pipe is full
 
 
 def ends_of(kind):
@@ -52,11 +53,11 @@ def nobody_reads():
             ask_for_lines(first, 20_000)
             other.ask(b"get a\r\n", ANSWER, f"another client, with {kind} that nobody reads")
             other.ask(b"verbosity 0\r\n", b"OK\r\n")
-            text = take_lines(reads, LOST)
+            text = take_lines(reads, MANY_LOST)
             lines = text.split(b"\n")
             expect(all(LINE.fullmatch(line) for line in lines[:-1]), f"whole lines, with {kind}")
             told = len([line for line in lines if re.fullmatch(rb"kangarood: debug: <\d+ a", line)])
-            expect(1000 < told < 20_001 and int(LOST.search(text)[1]) > 1000, f"{told} gets were told, with {kind}")
+            expect(1000 < told < 20_001 and int(MANY_LOST.search(text)[1]) > 1000, f"{told} gets were told, with {kind}")
             ask_for_lines(first, 20_000)
             equal(it.stop(), 0, f"the status, with {kind} that nobody reads")
         finally:
