@@ -3,7 +3,7 @@ ghost use Rattle.std.specs.Prelude.{◌≡◌, IfOk, []};
 ghost use Rattle.serve_load.specs.Times.{AreTold, IsJoined, IsNoted, IsNotedOnce, nanos_between};
 
 use crate::report::Timed;
-use load::{Histogram, ServeOperation};
+use load::{Histogram, LONGEST, ServeOperation};
 use std::alloc::{AllocError, Global};
 use std::time::{Clock, Instant};
 
@@ -53,7 +53,7 @@ impl CallTimes {
             self.old.gets self.new.gets self.old.puts self.new.puts }
     {
         let taken = end.duration_since(begin).as_nanos();
-        self.add(operation, u64::try_from(taken).unwrap_or(u64::MAX));
+        self.add(operation, taken.min(u128::from(LONGEST)) as u64);
     }
 
     /// Adds the time that an operation took to those of its kind. Removals are not timed.
