@@ -5,3 +5,4 @@ mod Adding
 mod Rows
 mod Sampling
 mod Saying
+mod Leasing
