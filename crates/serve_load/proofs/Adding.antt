@@ -1,5 +1,5 @@
 -- What callers counted, one more at a time.
-use Rattle.std.proofs.Common.{◌≡◌, ◌∙◌, ◌*◌, ◌+◌, ◌≤◌, ◌∷◌, ◌++◌, [], ℕ, List, ap, ap₂, arith, length, map, subst, suc, sum_by, sym, zero}
+use Rattle.std.proofs.Common.{◌≡◌, ◌∙◌, ◌*◌, ◌+◌, ◌≤◌, ◌∷◌, ◌++◌, [], ℕ, List, All, ap, ap₂, arith, length, map, refl, subst, suc, sum_by, sym, zero}
 use Rattle.std.proofs.Math.Logic.{∥∥₁_map}
 use Rattle.std.proofs.lemmas.List.{map-append}
 use Rattle.std.proofs.lemmas.List.Elements.{All-cons}

@@ -1,5 +1,5 @@
 -- One operation more of a caller, and its end.
-use Rattle.std.proofs.Common.{◌≡◌, ◌≢◌, ◌∙◌, ◌+◌, ◌≤◌, ◌<◌, ℕ, Bool, List, Some, None, suc, [], ap, arith, false, inl, inr, refl, replicate, slice_index, subst, sym}
+use Rattle.std.proofs.Common.{◌≡◌, ◌≢◌, ◌∙◌, ◌+◌, ◌≤◌, ◌<◌, ℕ, Bool, List, Some, None, suc, [], ap, arith, false, inl, inr, refl, replicate, slice_index, subst, sym, true}
 use Rattle.rand_pcg.specs.Lcg.{Lcg}
 use Rattle.load.specs.Operations.{past}
 use Rattle.load.specs.Served.{served_next_of}
@@ -10,11 +10,12 @@ use Rattle.serve_load.specs.declared.caller_stop.CallerStop.{CallerStop}
 use Rattle.serve_load.specs.declared.caller_stop.CallerStop.TheVariants.{AllMade, Halted, TimeOver, Wrong}
 use Rattle.serve_load.specs.declared.caller_tally.CallerTally.{CallerTally}
 use Rattle.serve_load.specs.declared.time_limit.TimeLimit.{TimeLimit}
+use Rattle.serve_load.specs.declared.told_hit.ToldHit.{ToldHit}
 use Rattle.serve_load.specs.declared.words.CallEnd.{CallEnd}
 use Rattle.serve_load.specs.declared.words.CallEnd.TheVariants.{Done, Refused, WrongHit}
 use Rattle.serve_load.specs.declared.words.Known.{Known}
 use Rattle.certificate_checker.specs.Deeds.{Deed}
-use Rattle.serve_load.specs.Calls.{Does, HasEnded, IsAt, IsComplete, IsEnded, IsOfCache, IsOneOf, IsTally, IsWrongHit, Standing, StopsRight, begun, completed, is_wrong, operation_at, refusals_of, standing, wrong_of}
+use Rattle.serve_load.specs.Calls.{Does, EndsRight, EndsWrong, HasEnded, IsAt, IsComplete, IsEnded, IsOfCache, IsOneOf, IsTally, IsWrongHit, Standing, StopsRight, begun, completed, is_wrong, operation_at, refusals_of, standing, wrong_of}
 use Rattle.serve_load.specs.Limits.{IsTimed, Stops}
 use Rattle.serve_load.specs.Looking.{FindsAll, IsFound}
 use Rattle.serve_load.specs.Objects.{key_of, moment_of}

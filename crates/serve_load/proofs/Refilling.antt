@@ -1,5 +1,5 @@
 -- A word that is written over and over, from the end to the front.
-use Rattle.std.proofs.Common.{◌≡◌, ◌∙◌, ◌≤◌, ◌<◌, ◌+◌, ◌-◌, ◌%◌, ◌++◌, ℕ, List, ap, arith, drop, length, length-append, length-drop, sym, take}
+use Rattle.std.proofs.Common.{◌≡◌, ◌∙◌, ◌≤◌, ◌<◌, ◌+◌, ◌-◌, ◌%◌, ◌++◌, ℕ, List, ap, ap₂, arith, drop, length, length-append, length-drop, rules, subst, sym, take}
 use Rattle.std.proofs.lemmas.List.{drop-drop, drop_at, length-take-le}
 use borrow.Rule.Slice.PartMut.{put_mid}
 use Rattle.serve_load.specs.Objects.{repeated}

@@ -6,6 +6,7 @@ use Rattle.service_lane.specs.declared.filled.Filled.TheVariants.{Stored, Stale}
 use Rattle.service_cache.specs.declared.seat_fault.SeatPutFault.{SeatPutFault}
 use Rattle.load.specs.declared.serve_load.ServeLoad.{ServeLoad}
 use Rattle.serve_load.specs.declared.words.CallEnd.{CallEnd}
+use Rattle.serve_load.specs.declared.words.Known.{Known}
 use Rattle.serve_load.specs.declared.words.CallEnd.TheVariants.{Done, Refused, WrongHit}
 use Rattle.serve_load.specs.Objects.{expires_of, value_of}
 

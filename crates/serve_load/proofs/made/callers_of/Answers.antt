@@ -1,5 +1,5 @@
 -- One caller more.
-use Rattle.std.proofs.Common.{◌++◌, ◌∷◌, []}
+use Rattle.std.proofs.Common.{rules, ◌++◌, ◌∷◌, []}
 use Rattle.std.proofs.lemmas.List.Elements.{All-push, All-same}
 use Rattle.serve_load.specs.Calls.{IsOneOf}
 use Rattle.serve_load.proofs.Adding.{one_more_number}

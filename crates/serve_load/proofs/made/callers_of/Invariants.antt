@@ -1,5 +1,5 @@
 -- The callers so far are numbered in order, and each is one of the load's.
-use Rattle.std.proofs.Common.{◌≡◌, All, map}
+use Rattle.std.proofs.Common.{◌≡◌, All, [], map}
 use Rattle.serve_load.specs.Calls.{IsOneOf}
 use Rattle.serve_load.specs.Tallies.{upto}
 use Rattle.serve_load.proofs.made.callers_of.Given as goal

@@ -1,4 +1,5 @@
 -- What was made is what the callers counted.
+use Rattle.std.proofs.Common.{◌∙◌, sym}
 use Rattle.serve_load.specs.Calls.{IsTally}
 use Rattle.serve_load.proofs.Adding.{as_others, is_made}
 use Rattle.serve_load.proofs.made.make.Goals as goal

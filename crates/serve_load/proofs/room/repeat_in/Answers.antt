@@ -1,5 +1,5 @@
 -- One word more.
-use Rattle.std.proofs.Common.{◌≡◌, ◌-◌, ◌%◌, ◌≤◌, ◌<◌, ℕ, List, ap, arith, length, rules, subst, sym, ◌∙◌, drop}
+use Rattle.std.proofs.Common.{◌≡◌, ◌+◌, ◌-◌, ◌%◌, ◌≤◌, ◌<◌, ℕ, List, ap, arith, length, refl, rules, subst, sym, ◌∙◌, drop}
 use borrow.Rule.Slice.PartMut.{put_mid}
 use Rattle.serve_load.specs.Objects.{repeated}
 use Rattle.serve_load.proofs.Refilling.{refilled, same_length}

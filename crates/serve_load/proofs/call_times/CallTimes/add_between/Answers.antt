@@ -1,5 +1,5 @@
 -- A time that is cut at the longest is added as the whole time is.
-use Rattle.std.proofs.Common.{arith, ◌≡◌, ◌∙◌}
+use Rattle.std.proofs.Common.{rules, arith, ◌≡◌, ◌∙◌, ap}
 use Rattle.std.specs.Prelude.{min}
 use Rattle.load.specs.Cells.{longest}
 use Rattle.serve_load.specs.Times.{nanos_between}

@@ -1,5 +1,5 @@
 -- The counts are those of one of the load's callers.
-use Rattle.std.proofs.Common.{arith}
+use Rattle.std.proofs.Common.{arith, refl, sym}
 use Rattle.serve_load.specs.Calls.{begun, first_generator, standing}
 use Rattle.serve_load.proofs.Making.{complete, has_ended, is_tally, no_operations, none}
 use Rattle.serve_load.proofs.caller.Caller.make_all.Goals as goal

@@ -1,5 +1,5 @@
 -- One operation more, or the end.
-use Rattle.std.proofs.Common.{◌≡◌, ◌∙◌, ◌+◌, ap, arith, refl, rules, subst, sym}
+use Rattle.std.proofs.Common.{◌≡◌, ◌∙◌, ◌+◌, ◌≤◌, ap, arith, refl, rules, subst, sym}
 use Rattle.load.specs.Served.{served_next_of}
 use Rattle.serve_load.specs.Calls.{Does, IsAt, IsEnded, standing}
 use Rattle.serve_load.specs.declared.caller_stop.CallerStop.TheVariants.{AllMade, Wrong}
