@@ -45,7 +45,8 @@ impl<'a> PageDevice<4096> for SlowDevice<'a> {
 }
 
 /// Most keys are in the log, of which some pages are on the device; and no record is due to move, so gets alone read it.
-const WORDS: &str = "k serve-load --lanes 1 --sets 3 --memory 4 --segments 64 --segment-pages 4 --callers 1 --workers 1 --operations 4000 --keys 300 --gets 60 --removes 0";
+const WORDS: &str =
+    "k serve-load --lanes 1 --sets 3 --memory 4 --segments 64 --segment-pages 4 --callers 1 --workers 1 --operations 4000 --keys 300 --gets 60 --removes 0";
 
 /// The report of the load over such a device.
 fn report_over<R: Threads + Wait + Sync + AllocGlobal + Clock + RandomSource>(
