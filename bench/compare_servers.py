@@ -61,10 +61,12 @@ class Server:
         raise SystemExit(f"{self.name} does not serve")
 
     def seconds(self):
-        """The processor time that it has taken."""
-        with open(f"/proc/{self.process.pid}/stat", encoding="ascii") as it:
-            fields = it.read().rsplit(")", 1)[1].split()
-        return (int(fields[11]) + int(fields[12])) / os.sysconf("SC_CLK_TCK")
+        """The processor time that its threads have taken."""
+        taken = 0
+        for task in os.listdir(f"/proc/{self.process.pid}/task"):
+            with contextlib.suppress(FileNotFoundError), open(f"/proc/{self.process.pid}/task/{task}/schedstat", encoding="ascii") as it:
+                taken += int(it.read().split()[0])
+        return taken / 1e9
 
     def stop(self):
         """Ends it."""

@@ -34,7 +34,7 @@ static atomic_bool is_over;
 typedef struct client {
     int fd;
     size_t batch, left, have, room; /* requests of its batch; answers to come; bytes that wait for their rest, and room for them */
-    uint64_t began;
+    uint64_t began, asked, hits;
     char *bytes;
 } client;
 
@@ -109,7 +109,6 @@ static char *put_set(caller *of, char *to, uint64_t key) {
 static char *put_get(caller *of, char *to) {
     to = (char *)memcpy(to, "get", 3) + 3;
     for (uint64_t i = 0; i < is[OF_GET]; i++) to = put_key(to, draw(of) % is[KEYS]);
-    of->asked += is[OF_GET];
     return (char *)memcpy(to, "\r\n", 2) + 2;
 }
 
@@ -126,11 +125,12 @@ static void send_all(int fd, const char *from, size_t length) {
 static bool ask(caller *of, client *by) {
     char *at = of->out;
     by->left = by->have = 0;
+    by->asked = by->hits = 0;
     for (uint64_t i = 0; i < is[FLIGHT]; i++) {
         if (is[MS] == 0 && of->next >= is[KEYS]) break;
         if (is[MS] == 0) at = put_set(of, at, of->next), of->next += is[THREADS];
         else if (draw(of) % 100 < is[SETS]) at = put_set(of, at, draw(of) % is[KEYS]);
-        else at = put_get(of, at);
+        else at = put_get(of, at), by->asked += is[OF_GET];
         by->left++;
     }
     by->batch = by->left;
@@ -140,13 +140,13 @@ static bool ask(caller *of, client *by) {
 }
 
 /* Takes one whole line, or value, of the answers. 0: there is none. */
-static size_t take_one(caller *of, client *by, const char *from, size_t length) {
+static size_t take_one(client *by, const char *from, size_t length) {
     const char *past = memchr(from, '\n', length);
     if (past == NULL) return 0;
     size_t line = (size_t)(past - from) + 1;
     if (*from == 'V') {
         if (length < line + is[BYTES] + 2) return 0;
-        of->hits++;
+        by->hits++;
         return line + is[BYTES] + 2;
     }
     if (strncmp(from, "END\r", 4) != 0 && strncmp(from, "STORED\r", 7) != 0) errno = EBADMSG, end("an answer");
@@ -160,12 +160,14 @@ static bool take(caller *of, client *by) {
     if (more < 0 && errno == EINTR) return false;
     if (more <= 0) end("recv");
     size_t have = by->have + (size_t)more, taken = 0, one;
-    while (by->left != 0 && (one = take_one(of, by, by->bytes + taken, have - taken)) != 0) taken += one;
+    while (by->left != 0 && (one = take_one(by, by->bytes + taken, have - taken)) != 0) taken += one;
     by->have = have - taken;
     memmove(by->bytes, by->bytes + taken, by->have);
     if (by->left != 0) return false;
     of->took[bucket_of(now() - by->began)]++;
     of->requests += by->batch;
+    of->asked += by->asked;
+    of->hits += by->hits;
     return true;
 }
 
