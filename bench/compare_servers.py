@@ -1,5 +1,5 @@
 #!/usr/bin/env python3
-"""compare_servers.py [--runs N] [--ms N] [--cells CELL,..] [--free] FOLDER NAME=PROGRAM..: builds of kangarood, or memcached, side by side.
+"""compare_servers.py [--runs N] [--ms N] [--cells "CELL;.."] [--free] FOLDER NAME=PROGRAM..: builds of kangarood, or memcached, side by side.
 
 Each cell is a load of bench/load_server.c, which is compiled first. In each of N runs (10) it is made on each server in turn, in an order that
 changes from run to run. A row has the middle of the runs, with the least and the greatest, and the ratio of the middle to the first server's.
@@ -149,7 +149,7 @@ def main():
         kinds = ("requests a second", "hits", "p50, us", "p99, us", "server, us a request")
         print(f"| load | server | ratio | {' | '.join(kinds)} |\n|{'---|' * (3 + len(kinds))}")
         for name in CELLS:
-            if not words.cells or any(word in name for word in words.cells.split(",")):
+            if not words.cells or any(word in name for word in words.cells.split(";")):
                 measure(words, load, servers, name)
     finally:
         for it in servers:

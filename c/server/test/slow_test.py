@@ -125,7 +125,7 @@ def bytes_of_lines():
         client.ask(b"set a 0 0 6\r\nsecret\r\nset a 0 0 4000\r\n" + b"secret" * 666 + b"1234\r\nstats sizes\r\n",
                    b"STORED\r\nSERVER_ERROR object too large for cache\r\nSTAT sizes_status disabled\r\nEND\r\n")
         wait_for(lambda: slow_lines(it)[-1]["command"] == "stats", "a line of stats")
-        expect("secret" not in it.said(), it.said())
+        expect("secret" not in it.said(), f"a data block is told: {it.said()}")
         equal(slow_lines(it)[-1]["bytes"], "-", "what is shown of stats")
 
 
